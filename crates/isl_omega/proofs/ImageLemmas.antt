@@ -1,7 +1,6 @@
 -- What the equality step makes of rows.
-use Rattle.std.proofs.Common.{◌≡◌, ◌≢◌, ◌↔◌, ◌∙◌, Option, Some, None, refl, sym, ap, arith, ℕ, ◌+◌, ◌-◌, ◌<◌, ◌≤◌, ℤ, pos, ◌+ℤ◌, ◌*ℤ◌, List, [], ◌∷◌, ◌++◌, length, map, take, get_or}
+use Rattle.std.proofs.Common.{◌≡◌, ◌≢◌, ◌↔◌, ◌∙◌, Option, Some, None, refl, sym, arith, ℕ, ◌-◌, ◌<◌, ◌≤◌, ℤ, pos, ◌+ℤ◌, ◌*ℤ◌, List, [], ◌∷◌, length, map}
 use Rattle.std.specs.List.{All, AllZip, insert}
-use Rattle.std.proofs.lemmas.List.{take_more, map-append}
 use Rattle.std.proofs.lemmas.List.Elements.{All-head, All-tail, All-cons}
 use Rattle.isl_math.specs.Divide as divide
 use Rattle.isl_math.specs.Divide.{floor_div}
@@ -142,8 +141,3 @@ pub step_is : (g : Gauge) (columns : ℕ) (fixed : Row) (col : ℕ) (rows : List
 step_is g columns fixed col rows o n h k l s =
     answer_same g (columns - 1) (λ point. HoldAt (images_of fixed col rows) col point (pos 0)) (IsSolvedBy rows fixed col)
     (λ point w. equality_step_is columns fixed col rows (map (image_of fixed col) rows) point (are_images fixed col rows n) h k l w) o s
-
--- one row more
-pub images_more : (fixed : Row) (col : ℕ) (rows : List Row) (i : ℕ) (r : Row) → i < length rows → r ≡ get_or rows i r → images_of fixed col (take (i + 1) rows) ≡ images_of fixed col (take i rows) ++ image_of fixed col r ∷ []
-images_more fixed col rows i r l e =
-    ap (images_of fixed col) (take_more rows i r l ∙ ap (λ (s : Row). take i rows ++ s ∷ []) (sym e)) ∙ ap (λ (rows : List Row). solvable fixed col ∷ rows) (map-append (image_of fixed col) (take i rows) (r ∷ []))

@@ -15,6 +15,7 @@ pub mod ReduceLemmas
 pub mod ShadowLemmas
 pub mod ShadowLists
 pub mod ShadowRows
+pub mod ShortImages
 pub mod SideLemmas
 pub mod SmallLemmas
 pub mod SmallPairs

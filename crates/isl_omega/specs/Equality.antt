@@ -1,6 +1,7 @@
 -- public: equalities that have a column, and rows from which one takes it out. (Pugh, the Omega test: substitution by an equality)
-use Rattle.std.specs.Prelude.{◌≡◌, ◌≢◌, ℕ, ◌≤◌, ℤ, pos, neg_ℤ, ◌+ℤ◌, ◌*ℤ◌, ◌<ℤ◌, List, ◌∷◌, Any, Option, map, unsigned_abs}
+use Rattle.std.specs.Prelude.{◌≡◌, ◌≢◌, ℕ, ◌≤◌, ℤ, pos, neg_ℤ, ◌+ℤ◌, ◌*ℤ◌, ◌<ℤ◌, List, [], ◌∷◌, ◌++◌, if◌then◌else◌, Any, Option, map, unsigned_abs}
 use Rattle.std.specs.List.{insert}
+use Rattle.std.specs.Ordering.{int_eq}
 use Rattle.isl_math.specs.Divide.{floor_div}
 use Rattle.isl_math.specs.Gcd.{gcd_of}
 use Rattle.isl_math.specs.Order.{abs_of, sign_of}
@@ -46,6 +47,14 @@ image_of fixed col row = combination (row_factor (coef_at fixed col) (coef_at ro
 -- where some whole number makes `fixed` 0, and the rows where it is 0
 abbrev pub images_of : Row → ℕ → List Row → List Row
 images_of fixed col rows = solvable fixed col ∷ map (image_of fixed col) rows
+
+-- the first of them without the column, where it does not hold at every point
+abbrev pub divisibility_of : Row → ℕ → List Row
+divisibility_of fixed col = if int_eq (abs_of (coef_at fixed col)) (pos 1) then [] else dropped (solvable fixed col) col ∷ []
+
+-- those rows without the column, but for a first one that holds at every point
+abbrev pub short_images_of : Row → ℕ → List Row → List Row
+short_images_of fixed col rows = divisibility_of fixed col ++ map (λ r. dropped r col) (map (image_of fixed col) rows)
 
 -- those rows without the column in normal form; none where no point is left
 abbrev pub solved_for : Row → ℕ → List Row → Option (List Row)

@@ -1,14 +1,17 @@
 //! Sums of multiples of rows without a column.
 
-ghost use Rattle.std.specs.Prelude.{◌≡◌, length, All, ℕ, ◌*◌, ◌+◌, ◌^◌, ◌<◌, ◌≤◌, unsigned_abs};
+ghost use Rattle.std.specs.Prelude.{◌≡◌, length, All, ℕ, ◌*◌, ◌+◌, ◌^◌, ◌<◌, ◌≤◌, pos, unsigned_abs, MatchResult, IfErr};
 ghost use Rattle.std.specs.List.{remove};
 ghost use Rattle.isl_math.specs.Dot.{weighted_sum};
-ghost use Rattle.isl_meter.specs.Gauge.{IsWithin, IsDone};
+ghost use Rattle.isl_meter.specs.Gauge.{IsWithin, IsCutUpTo, IsDone};
+ghost use Rattle.isl_piece.specs.Combine.{combination, scaled_divisor};
+ghost use Rattle.isl_piece.specs.Row.{IsRowWithin, IsRowUpTo};
+ghost use Rattle.isl_omega.specs.Column.{dropped};
 ghost use Rattle.isl_omega.specs.Magnitude.{IsNoOverflow};
 ghost use Rattle.isl_omega.specs.Units.{IsAnsweredFor};
 
-use isl_meter::{Cut, Int, Meter};
-use isl_piece::{Coefs, sum_of};
+use isl_meter::{Cut, Int, Meter, Overflow};
+use isl_piece::{Coefs, Row, RowKind, sum_of};
 use std::alloc::Global;
 
 /// Numbers of a row, and what each of them is to be multiplied by.
@@ -51,4 +54,55 @@ pub fn weighted_without(
         }
     }
     Ok(coefs)
+}
+
+// The modulus of `m` times the row.
+fn divisor_of(row: &Row, m: Int, meter: &mut Meter) -> Result<Int, Overflow>
+    requires { IsRowWithin meter.old row.now }
+    ensures exact { MatchResult result
+        (λ k. (k ≡ scaled_divisor row.now.kind m row.now.k) × IsWithin meter.old k × (meter.new ≡ meter.old))
+        (λ _. IsCutUpTo (pos 0) meter.old meter.new Cut.Overflow) }
+    ensures no_overflow { (u w : ℕ) → unsigned_abs m ≤ u → IsRowUpTo w row.now → u * w < 2 ^ meter.old.bits → IfErr result (λ _. ⊥) }
+{
+    match row.kind {
+        RowKind::Zero | RowKind::AtLeast => Ok(row.modulus()),
+        RowKind::Divides | RowKind::NotDivides => m.mul(row.modulus(), meter),
+    }
+}
+
+/// `m` times `row` plus `n` times `other` without the column, of the kind of `row`; the modulus of a congruence is multiplied by `m`
+/// too. The row is written once. Uses no unit.
+///
+/// # Errors
+///
+/// `Overflow` where a number of the row, a product or a sum passes the limit of the meter, and `NoMemory`.
+pub(crate) fn combination_without(
+    alloc: Global,
+    m: Int,
+    row: &Row,
+    n: Int,
+    other: &Row,
+    col: usize,
+    meter: &mut Meter,
+) -> Result<Row, Cut>
+    requires row_within { IsRowWithin meter.old row.now }
+    requires other_within { IsRowWithin meter.old other.now }
+    requires same_width { length row.now.coefs ≡ length other.now.coefs }
+    ensures exact { IsDone meter.old meter.new
+        (λ sum. (sum ≡ dropped (combination m row.now n other.now) col) × IsRowWithin meter.old sum) result }
+    ensures no_overflow { (u v w x : ℕ) → unsigned_abs m ≤ u → unsigned_abs n ≤ v → IsRowUpTo w row.now → IsRowUpTo x other.now
+        → u * w + v * x < 2 ^ meter.old.bits → IsNoOverflow result }
+{
+    let left = Multiple {
+        times: m,
+        numbers: row.coefs.as_slice(),
+    };
+    let right = Multiple {
+        times: n,
+        numbers: other.coefs.as_slice(),
+    };
+    let coefs = weighted_without(alloc, &left, &right, col, meter)?;
+    let constant = sum_of(m, row.constant(), n, other.constant(), meter)?;
+    let k = divisor_of(row, m, meter)?;
+    Ok(Row::new(row.kind, coefs, constant, k))
 }

@@ -149,7 +149,7 @@ pub(crate) fn merged(
     ensures no_overflow { length rows.now < 2 → IsNoOverflowWith (λ pair. pair.1 ≡ []) result }
 {
     let mut one = reduced_copy(alloc, &rows[0], meter)?;
-    let mut others = Rows::new(alloc);
+    let mut others = Rows::with_capacity(alloc, rows.len() - 1)?;
     for i in 1..rows.len() {
         let (next, other) = joined(alloc, &one, &rows[i], column, meter)?;
         others.push(other)?;

@@ -3,14 +3,15 @@
 ghost use Rattle.std.specs.Prelude.{◌≡◌, ◌≢◌, ◌-◌, ◌+◌, ◌*◌, ◌^◌, ◌<◌, ℕ, pos, length, All, IfOk};
 ghost use Rattle.isl_meter.specs.Gauge.{IsWithin, IsDone};
 ghost use Rattle.isl_piece.specs.Row.{IsRowWithin, IsWellFormed, coef_at};
-ghost use Rattle.isl_omega.specs.Column.{IsAnswerFor};
-ghost use Rattle.isl_omega.specs.Equality.{AreFactors, IsSolvedBy, solvable, row_factor, equality_factor, image_of, images_of, solved_for};
+ghost use Rattle.isl_omega.specs.Column.{IsAnswerFor, dropped};
+ghost use Rattle.isl_omega.specs.Equality.{AreFactors, IsSolvedBy, solvable, row_factor, equality_factor, image_of, divisibility_of, short_images_of, solved_for};
 ghost use Rattle.isl_omega.specs.Magnitude.{IsNoOverflow, IsRowUpToAt};
 
 use crate::column::Column;
-use crate::rows::settled;
+use crate::combine::combination_without;
+use crate::rows::{coefs_without, row_without};
 use isl_meter::{Cut, Int, Meter};
-use isl_piece::{Row, RowKind, Rows, combination};
+use isl_piece::{Row, RowKind, Rows};
 use std::alloc::{AllocError, Global};
 
 // What to multiply a row and an equality by, so that the column cancels.
@@ -30,8 +31,8 @@ fn factors(pivot: Int, own: Int, meter: &Meter) -> (Int, Int)
     (m, n.neg(meter))
 }
 
-// The row without the column, where `fixed` is 0: one that does not have it stays as it is.
-fn image(
+// The row where `fixed` is 0, without the column. It is written once: one that does not have the column is copied.
+fn image_without(
     alloc: Global,
     row: &Row,
     fixed: &Row,
@@ -44,40 +45,43 @@ fn image(
     requires fixed_width { length fixed.now.coefs ≡ column.columns }
     requires occurs { coef_at fixed.now column.at ≢ pos 0 }
     ensures exact { IsDone meter.old meter.new
-        (λ short. (short ≡ image_of fixed.now column.at row.now) × IsRowWithin meter.old short) result }
+        (λ short. (short ≡ dropped (image_of fixed.now column.at row.now) column.at) × IsRowWithin meter.old short) result }
     ensures no_overflow { (u v w x : ℕ) → IsRowUpToAt column.at u w row.now → IsRowUpToAt column.at v x fixed.now
         → v * w + u * x < 2 ^ meter.old.bits → IsNoOverflow result }
 {
     let own = row.coefs.get(column.at);
     if own.is_zero() {
-        return Ok(row.copy(alloc)?);
+        return Ok(row_without(alloc, row, column.at)?);
     }
     let (m, n) = factors(fixed.coefs.get(column.at), own, meter);
-    combination(alloc, m, row, n, fixed, meter)
+    combination_without(alloc, m, row, n, fixed, column.at, meter)
 }
 
-// The row that says where some whole number makes `fixed` 0.
+// The row that says where some whole number makes `fixed` 0, without the column, in a list with room for `count` rows. Where any
+// point has such a number, it is left out.
 fn divisibility(
     alloc: Global,
     fixed: &Row,
     column: Column,
+    count: usize,
     meter: &Meter,
-) -> Result<Row, AllocError>
+) -> Result<Rows, AllocError>
     requires fixed_within { IsRowWithin meter.now fixed.now }
     requires width { length fixed.now.coefs ≡ column.columns }
-    ensures { IfOk result (λ row. (row ≡ solvable fixed.now column.at) × IsRowWithin meter.now row) }
+    ensures { IfOk result (λ short. (short ≡ divisibility_of fixed.now column.at) × All (IsRowWithin meter.now) short) }
 {
+    let mut short = Rows::with_capacity(alloc, count)?;
     let k = fixed.coefs.get(column.at).abs(meter);
-    Ok(Row::new(
-        RowKind::Divides,
-        fixed.coefs.copy(alloc)?,
-        fixed.constant(),
-        k,
-    ))
+    if k == Int::ONE {
+        return Ok(short);
+    }
+    let coefs = coefs_without(alloc, fixed.coefs.as_slice(), column.at)?;
+    short.push(Row::new(RowKind::Divides, coefs, fixed.constant(), k))?;
+    Ok(short)
 }
 
-// The rows where `fixed` is 0 at some whole number, in which the column cancels.
-fn images(
+// The rows where `fixed` is 0 at some whole number, without the column, which cancels in them.
+fn images_without(
     alloc: Global,
     rows: &[Row],
     fixed: &Row,
@@ -90,14 +94,13 @@ fn images(
     requires fixed_within { IsRowWithin meter.old fixed.now }
     requires occurs { coef_at fixed.now column.at ≢ pos 0 }
     ensures exact { IsDone meter.old meter.new
-        (λ short. (short ≡ images_of fixed.now column.at rows.now) × All (IsRowWithin meter.old) short) result }
+        (λ short. (short ≡ short_images_of fixed.now column.at rows.now) × All (IsRowWithin meter.old) short) result }
     ensures no_overflow { (u v w x : ℕ) → All (IsRowUpToAt column.at u w) rows.now → IsRowUpToAt column.at v x fixed.now
         → v * w + u * x < 2 ^ meter.old.bits → IsNoOverflow result }
 {
-    let mut short = Rows::new(alloc);
-    short.push(divisibility(alloc, fixed, column, meter)?)?;
+    let mut short = divisibility(alloc, fixed, column, rows.len() + 1, meter)?;
     for row in rows {
-        short.push(image(alloc, row, fixed, column, meter)?)?;
+        short.push(image_without(alloc, row, fixed, column, meter)?)?;
     }
     Ok(short)
 }
@@ -127,7 +130,7 @@ pub fn equality_step(
     ensures no_overflow { (u v w x : ℕ) → All (IsRowUpToAt column.at u w) rows.now → IsRowUpToAt column.at v x fixed.now
         → v * w + u * x < 2 ^ meter.old.bits → IsNoOverflow result }
 {
-    let short = images(alloc, rows, fixed, column, meter)?;
-    let left = settled(alloc, &short, column, meter)?;
+    let short = images_without(alloc, rows, fixed, column, meter)?;
+    let left = short.normalise(alloc, meter)?;
     Ok(left)
 }

@@ -18,7 +18,11 @@ pub const MOST_PAIRS: usize = 131_072;
 
 // The numbers but for the one at `col`.
 #[tactic(auto, using(std::proofs::lemmas::Grind::common_steps, crate::proofs::ColumnLemmas::removals))]
-fn coefs_without(alloc: Global, coefs: &[Int], col: usize) -> Result<Coefs, AllocFailed<Int>>
+pub(crate) fn coefs_without(
+    alloc: Global,
+    coefs: &[Int],
+    col: usize,
+) -> Result<Coefs, AllocFailed<Int>>
     ensures { IfOk result (λ kept. kept ≡ remove coefs.now col) }
 {
     let mut kept = Coefs::new(alloc);
@@ -51,7 +55,7 @@ fn rows_without(alloc: Global, rows: &[Row], col: usize) -> Result<Rows, Cut>
     ensures ok { IfOk result (λ short. short ≡ map (λ r. dropped r col) rows.now) }
     ensures err { OnErr result (result ≡ Err Cut.NoMemory) }
 {
-    let mut short = Rows::new(alloc);
+    let mut short = Rows::with_capacity(alloc, rows.len())?;
     for row in rows {
         short.push(row_without(alloc, row, col)?)?;
     }

@@ -225,7 +225,7 @@ fn least_tails(
         (λ tails. (uppers : List Row) → AllZip (AreSplintersOf meter.old column.at neighbours uppers) lowers.now tails.items) result }
     ensures no_overflow { meter.old.bits ≡ 127 → All (IsRowUpTo paired_magnitude) lowers.now → unsigned_abs neighbours ≤ 1 → IsNoOverflow result }
 {
-    let mut tails = Vec::new(alloc);
+    let mut tails = Vec::with_capacity(alloc, lowers.len())?;
     for lower in lowers {
         tails.push(least_tail(alloc, lower, neighbours, column, meter)?)?;
     }
@@ -263,7 +263,7 @@ fn pairs_of(
         → unsigned_abs uppers.now.neighbours ≤ 1 → IsNoOverflow result }
 {
     let mut rows = Rows::new(alloc);
-    let mut tails = Vec::new(alloc);
+    let mut tails = Vec::with_capacity(alloc, lowers.len())?;
     let mut never = false;
     for lower in lowers {
         let (tail, none) = tail_of(alloc, lower, uppers, &mut rows, meter)?;

@@ -101,7 +101,14 @@ impl Progression {
             ++ within_scale self.now.merged self.now.substitution.scale ∷ []) }
         ensures err { IfErr result (λ cut. cut ≡ Cut.NoMemory) }
     {
-        let mut rows = moved;
+        let more = self
+            .residual
+            .len()
+            .saturating_add(free.len())
+            .saturating_add(1);
+        let mut items = Vec::from(moved);
+        items.reserve(more)?;
+        let mut rows = Rows::from(items);
         rows.append(alloc, &self.residual)?;
         rows.append(alloc, free)?;
         rows.push(self.within_scale(alloc)?)?;

@@ -149,7 +149,7 @@ impl Substitution {
         ensures no_overflow { meter.old.bits ≡ 127 → unsigned_abs self.now.scale ≤ given_magnitude → IsRowUpTo given_magnitude self.now.offsets
             → All (IsRowUpTo given_magnitude) rows.now → IsNoOverflow result }
     {
-        let mut moved = Rows::new(alloc);
+        let mut moved = Rows::with_capacity(alloc, rows.len())?;
         for row in rows {
             moved.push(self.bound(alloc, row, column, meter)?)?;
         }
@@ -174,7 +174,7 @@ impl Substitution {
         ensures no_overflow { meter.old.bits ≡ 127 → unsigned_abs self.now.scale ≤ given_magnitude → IsRowUpTo given_magnitude self.now.offsets
             → All (IsRowUpTo given_magnitude) rows.now → IsNoOverflow result }
     {
-        let mut moved = Rows::new(alloc);
+        let mut moved = Rows::with_capacity(alloc, rows.len())?;
         for row in rows {
             moved.push(self.put(alloc, row, column, meter)?)?;
         }

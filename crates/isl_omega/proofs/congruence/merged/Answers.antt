@@ -16,7 +16,7 @@ loop-i-init c =
     let formed : IsWellFormed c.args.column.columns r = grind (arith, common_steps) in
     let within : IsRowWithin c.args.meter.now c.in_ok-one.one = grind arith in
     let is : c.in_ok-one.one ≡ reduced_row r = grind arith in
-    let none : c.new-others.result ≡ [] = grind arith in
+    let none : c.in_ok-others.others ≡ [] = grind arith in
     (rw (take_one rows r c.requires.some c.index-rows-0.is, none) (merged_first c.args.meter.now c.args.column.columns c.args.column.at r c.in_ok-one.one kind formed within is), refl, (λ _. none))
 
 pub loop-i-preserved : goal.loop-i-preserved

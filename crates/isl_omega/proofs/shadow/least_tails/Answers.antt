@@ -7,7 +7,9 @@ use Rattle.isl_omega.specs.Shadow.{AreSplintersOf}
 use Rattle.isl_omega.proofs.shadow.least_tails.Goals as goal
 
 pub loop-lower-init : goal.loop-lower-init
-loop-lower-init c = rw c.new-tails.ensures.items ((λ uppers. tt), refl)
+loop-lower-init c =
+    let none : c.in_ok-tails.tails.items ≡ [] = grind arith in
+    rw none ((λ uppers. tt), refl)
 
 pub loop-lower-preserved : goal.loop-lower-preserved
 loop-lower-preserved c =

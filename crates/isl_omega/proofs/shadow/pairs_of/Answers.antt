@@ -13,12 +13,14 @@ use Rattle.isl_omega.proofs.ShadowLists.{shadow_none, tail_kept, shadow_more}
 use Rattle.isl_omega.proofs.shadow.pairs_of.Goals as goal
 
 pub loop-lower-init : goal.loop-lower-init
-loop-lower-init c = rw (c.new-rows.ensures, c.new-tails.ensures.items) (record {
-  is_shadow = shadow_none c.args.meter.now c.args.uppers.now.column.columns c.args.uppers.now.column.at c.args.uppers.now.neighbours c.args.uppers.now.rows.now;
-  never = λ t. absurd (grind arith);
-  charged = charged_none (length c.args.uppers.now.rows.now) c.args.meter.now;
-  exact = no_turn (length c.args.uppers.now.rows.now) c.args.meter.now;
-})
+loop-lower-init c =
+    let none : c.in_ok-tails.tails.items ≡ [] = grind arith in
+    rw (c.new-rows.ensures, none) (record {
+      is_shadow = shadow_none c.args.meter.now c.args.uppers.now.column.columns c.args.uppers.now.column.at c.args.uppers.now.neighbours c.args.uppers.now.rows.now;
+      never = λ t. absurd (grind arith);
+      charged = charged_none (length c.args.uppers.now.rows.now) c.args.meter.now;
+      exact = no_turn (length c.args.uppers.now.rows.now) c.args.meter.now;
+    })
 
 pub loop-lower-preserved : goal.loop-lower-preserved
 loop-lower-preserved c =
