@@ -1,4 +1,5 @@
 pub mod AlongLaws
+pub mod BetweenLaws
 pub mod DefiningLaws
 pub mod DifferenceColumns
 pub mod EmptinessLaws

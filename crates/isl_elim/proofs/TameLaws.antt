@@ -210,7 +210,7 @@ square_once zero c l = absurd (omega arith)
 square_once (suc n) c l = omega arith
 
 -- ---- emptiness
-other_kind : (kind : RowKind) → (kind ≡ kinds.Zero) ⊎ (kind ≡ kinds.AtLeast) → kind ≢ kinds.Divides
+pub other_kind : (kind : RowKind) → (kind ≡ kinds.Zero) ⊎ (kind ≡ kinds.AtLeast) → kind ≢ kinds.Divides
 other_kind kind (inl e) f = cc
 other_kind kind (inr e) f = cc
 

@@ -1,3 +1,4 @@
+pub mod Between
 pub mod Dependents
 pub mod Elimination
 pub mod Flatten

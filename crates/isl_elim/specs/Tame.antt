@@ -1,6 +1,6 @@
 -- inner: calls on difference constraints that are answered within so many units, and what they leave. (Miné, difference-bound matrices; Pugh,
 -- the Omega test)
-use Rattle.std.specs.Prelude.{◌≡◌, ℕ, ◌+◌, ◌≤◌, List, [], ◌++◌, All, IfSome, Option, Result, length}
+use Rattle.std.specs.Prelude.{◌≡◌, ℕ, ◌+◌, ◌≤◌, List, [], ◌++◌, All, IfSome, Option, Result, length, ℤ, ◌^◌, unsigned_abs}
 use Rattle.isl_meter.specs.declared.Cut.{Cut}
 use Rattle.isl_meter.specs.Gauge.{Gauge}
 use Rattle.isl_piece.specs.declared.row.Row.{Row}
@@ -34,6 +34,10 @@ pub record AddsFewDifferences (bits : ℕ) (old new : List (List Row)) : Type 0 
   pub added : List (List Row)
   pub pushed : new ≡ old ++ added
   pub are : AreFewDifferences bits added
+
+-- each number of a point leaves so much of a power of two as another one is
+abbrev pub AreNumbersLeft : ℕ → ℕ → List ℤ → Type 0
+AreNumbersLeft bits most xs = All (λ x. unsigned_abs x + 2 ^ bits ≤ 2 ^ most) xs
 
 -- ---- calls
 -- where difference constraints are given over so many columns, and the bits of their constants leave room for one bit more with each column, at

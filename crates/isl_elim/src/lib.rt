@@ -2,6 +2,7 @@
 #![tactic(auto)]
 
 mod along;
+mod between;
 mod columns;
 mod dependents;
 mod emptiness;
