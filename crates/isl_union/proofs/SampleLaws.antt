@@ -31,12 +31,17 @@ use Rattle.isl_piece.proofs.MergeLaws.{same_bound-true, AreApart}
 use Rattle.isl_piece.proofs.NormalLaws.{IsNormal-from}
 use Rattle.isl_piece.proofs.NormalSteps.{upright_stays, zero_kept}
 use Rattle.isl_piece.proofs.NumberLaws.{divided_one, quotient_one}
+use Rattle.isl_ledger.specs.Difference.{IsDifferenceSystem}
+use Rattle.isl_ledger.specs.Work.{Size}
 use Rattle.isl_elim.specs.Sample.{IsSample}
 use Rattle.isl_union.specs.KeptValue.{KeptPiece, KeptValue, Has, HasElement, IsKeptPiece, IsKeptValue, columns_of, piece_system, point_of}
 use Rattle.isl_union.specs.Numbers.{IsPieceUpTo, IsWithinLimit}
 use Rattle.isl_union.specs.Piece.{kept_piece, piece_of, IsPieceOf}
 use Rattle.isl_union.specs.Sample.{number_row, number_rows, only_piece, point_system, IsSampleOf}
+use Rattle.isl_union.specs.Tame.{IsOfSize}
 use Rattle.isl_union.proofs.PieceLaws.{IsKeptValue-from_pieces}
+use Rattle.isl_union.proofs.SizeLaws.{pieces_of_size}
+use Rattle.isl_union.proofs.TameLaws.{item_system}
 use Rattle.isl_union.proofs.SystemLaws.{made_sound, view_free, view_is, view_within}
 
 -- ---- the form that is one column
@@ -279,6 +284,18 @@ module _ (g : Gauge) (value : KeptValue) (kept : IsKeptValue value) where
         let stored = subst (All (IsPieceUpTo b)) (sym same) all 0 (kept_piece p) (rw (length-map pieces kept_piece) first_low) in
         view_within g value.params p first_fit (subst (IsPieceUpTo b)
         (get_or-map kept_piece pieces 0 p (kept_piece p) first_low ∙ ap kept_piece first_here) stored)
+
+    -- the first piece is of difference constraints where all are
+    pub first_of_size : (size : Size) → IsOfSize value.params size value
+        → (1 ≤ size.pieces) × IsDifferenceSystem size.columns size.bits p.system
+    first_of_size size h =
+        let all = pieces_of_size value.params size pieces value.pieces sound same h in
+        let few = all.few in
+        let long = length-map pieces (λ (q : PieceView). q.system) in
+        let some = first_low in (
+          omega (arith, few, long, some),
+          item_system (IsDifferenceSystem size.columns size.bits) pieces 0 p some (sym first_here) all.each,
+        )
 
     pub one_sound : (only : PieceView) → IsPointPiece g p only → (made : List PieceView) → made ≡ only ∷ []
         → All (IsPieceOf value.params) made

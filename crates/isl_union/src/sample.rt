@@ -1,14 +1,18 @@
 //! Values of one element.
 
-ghost use Rattle.std.specs.Prelude.{◌≡◌, ◌<◌, ℤ, List, All, IfOk, MatchResult, length};
+ghost use Rattle.std.specs.Prelude.{◌≡◌, ◌<◌, ◌≤◌, ◌+◌, ◌*◌, ℕ, ℤ, ⊤, List, All, IfOk, MatchResult, length};
 ghost use Rattle.isl_meter.specs.Gauge.{IsCharged, IsMetered, IsWithin};
 ghost use Rattle.isl_space.specs.Space.{space_form_of};
 ghost use Rattle.isl_piece.specs.System.{HoldsSystem, IsSystemWithin, free_columns};
+ghost use Rattle.isl_ledger.specs.Answered.{IsTame};
+ghost use Rattle.isl_ledger.specs.Difference.{IsDifferenceSystem};
+ghost use Rattle.isl_ledger.specs.Work.{Size, allowance};
 ghost use Rattle.isl_elim.specs.Sample.{IsNowhere, IsSample};
 ghost use Rattle.isl_union.specs.Fault.{IsCutFault};
 ghost use Rattle.isl_union.specs.KeptValue.{HasNoDefinitions, IsKeptValue};
 ghost use Rattle.isl_union.specs.Numbers.{IsWithinLimit};
 ghost use Rattle.isl_union.specs.Sample.{number_row, number_rows, point_system, IsSampleOf};
+ghost use Rattle.isl_union.specs.Tame.{IsOfSize, IsTameAnswer};
 
 use crate::{OpFault, Value};
 use isl_elim::sample_point;
@@ -62,6 +66,8 @@ fn point_piece(alloc: Global, piece: &Piece, meter: &mut Meter) -> Result<Piece,
         × IsSample meter.old (free_columns piece.now.system) (HoldsSystem piece.now.system) point
         × (only ≡ record { space = piece.now.space; system = point_system point })) }
     ensures meter { IsMetered meter.old meter.new result }
+    ensures tame { (columns bits : ℕ) → meter.old.bits ≡ 127 → bits + columns ≤ 119 → IsDifferenceSystem columns bits piece.now.system
+        → IsTame (8 * ((columns + 1) * allowance 1 columns)) meter.old meter.new (λ _. ⊤) result }
 {
     match sample_point(alloc, piece.system(), meter)? {
         None => unreachable!(),
@@ -85,6 +91,8 @@ impl Value {
         ensures definitions { IfOk result HasNoDefinitions }
         ensures within { IfOk result (IsWithinLimit meter.old) }
         ensures meter { MatchResult result (λ _. IsCharged meter.old meter.new) (IsCutFault meter.old meter.new) }
+        ensures tame { (size : Size) → meter.old.bits ≡ 127 → size.bits + size.columns ≤ 119 → IsOfSize self.now.params size self.now
+            → IsTameAnswer (8 * ((size.columns + 1) * allowance size.pieces size.columns)) meter.old meter.new (λ _. ⊤) result }
     {
         let params = self.params().copy(alloc)?;
         let Some(first) = self.pieces().first() else {

@@ -1,10 +1,15 @@
-use Rattle.std.proofs.Common.{◌∙◌, ap₂, subst, ℤ, List}
+use Rattle.std.proofs.Common.{◌∙◌, ap₂, sym, subst, arith, ◌+◌, ◌*◌, ℤ, List}
+use Rattle.std.proofs.lemmas.Result.{err_from_is_err_and}
 use Rattle.isl_space.specs.SpaceForm.{SpaceForm}
 use Rattle.isl_piece.specs.declared.system.System.{System}
 use Rattle.isl_piece.specs.Piece.{PieceView}
 use Rattle.isl_piece.specs.System.{HoldsSystem, free_columns}
 use Rattle.isl_elim.specs.Sample.{IsNowhere, IsSample}
+use Rattle.isl_ledger.specs.Difference.{IsDifferenceSystem}
+use Rattle.isl_ledger.specs.Work.{allowance}
+use Rattle.isl_difference.proofs.TameLaws.{one_of_size, tame_cut_first, tame_memory, tame_ok}
 use Rattle.isl_union.specs.Sample.{point_system}
+use Rattle.isl_union.specs.Tame.{size_of}
 use Rattle.isl_union.proofs.sample.point_piece.Goals as goal
 
 pub unreachable-requires : goal.unreachable-requires
@@ -21,3 +26,27 @@ returns-clause-exact c =
       subst (λ (s : System). IsSample c.args.meter.now (free_columns s) (HoldsSystem s) point) c.system.ensures exact,
       c.in_ok-only_piece-in-Some.ensures ∙ ap₂ piece c.space.ensures c.as_slice.ensures.value,
     )
+
+-- ---- of difference constraints
+pub returns-in_err-sample_point-clause-tame : goal.returns-in_err-sample_point-clause-tame
+returns-in_err-sample_point-clause-tame c = λ columns bits limit room d.
+    let most = 8 * ((columns + 1) * allowance 1 columns) in
+    let p = err_from_is_err_and c.from_residual.result c.from_residual.ensures.1 in
+    rw (p.1, p.2) (tame_cut_first most c.args.meter.now c.sample_point.new.meter _ _ c.in_err-sample_point.field-0.0
+    (c.in_err-sample_point.ensures.tame (size_of 1 columns bits) limit room
+    (one_of_size columns bits c.system.result.now (subst (IsDifferenceSystem columns bits) (sym c.system.ensures) d))))
+
+pub returns-in_err-only_piece-in-Some-clause-tame : goal.returns-in_err-only_piece-in-Some-clause-tame
+returns-in_err-only_piece-in-Some-clause-tame c = λ columns bits limit room d.
+    let most = 8 * ((columns + 1) * allowance 1 columns) in
+    let asked = c.in_ok-sample_point.ensures.tame (size_of 1 columns bits) limit room
+    (one_of_size columns bits c.system.result.now (subst (IsDifferenceSystem columns bits) (sym c.system.ensures) d)) in
+    let p = err_from_is_err_and c.from_residual-in_err-only_piece-in-Some.result c.from_residual-in_err-only_piece-in-Some.ensures.1 in
+    rw (p.1, p.2) (tame_memory most most c.args.meter.now c.sample_point.new.meter _ asked.within.units (omega arith))
+
+pub returns-clause-tame : goal.returns-clause-tame
+returns-clause-tame c = λ columns bits limit room d.
+    let most = 8 * ((columns + 1) * allowance 1 columns) in
+    let asked = c.in_ok-sample_point.ensures.tame (size_of 1 columns bits) limit room
+    (one_of_size columns bits c.system.result.now (subst (IsDifferenceSystem columns bits) (sym c.system.ensures) d)) in
+    tame_ok most c.args.meter.now c.sample_point.new.meter _ _ asked.within.units tt
