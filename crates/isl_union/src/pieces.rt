@@ -18,26 +18,25 @@ ghost use Rattle.isl_union.specs.Pieces.{IsOfAny};
 ghost use Rattle.isl_union.specs.Tame.{size_of, systems_of};
 
 use crate::live::{live_piece, push_found};
+use isl_difference::are_too_many;
 use isl_meter::{Cut, Meter};
 use isl_piece::{Piece, System};
 use isl_space::{Params, Space};
 use std::alloc::{AllocError, Global};
 
-// How many rows the systems of a list keep at most, as its last piece tells. More count as want of memory, so that memory is bounded as
-// time is.
-const MOST_ROWS: usize = 262_144;
-
 /// Puts the other pieces behind these.
 ///
 /// # Errors
 ///
-/// `AllocError` where memory ends, or they have more rows together than a list keeps.
+/// `AllocError` where memory ends, or they are too many together: memory is bounded as time is.
 pub(crate) fn add(pieces: &mut Vec<Piece>, more: &mut Vec<Piece>) -> Result<(), AllocError>
     ensures items { OnOk result (pieces.new.items ≡ pieces.old.items ++ more.old.items) }
 {
-    let rows = more.last().map_or(0, |piece| piece.system().rows.len());
     let count = pieces.len().saturating_add(more.len());
-    if count.saturating_mul(rows) > MOST_ROWS {
+    if more
+        .last()
+        .is_some_and(|piece| are_too_many(count, piece.system()))
+    {
         return Err(AllocError);
     }
     pieces.append(more)
