@@ -16,6 +16,13 @@ made_work_allowed pieces c = by (c * (c * c)) (c * pair_limit c) (test_allowed c
     by : (t e : ℕ) → t ≤ e → pieces * t ≤ pieces * (1 + e)
     by t e l = mul-le-mul_left {m = t} {n = 1 + e} pieces (omega (arith, l))
 
+-- a point of one system
+pub point_work_allowed : (c : ℕ) → c * (c * c) ≤ 8 * ((c + 1) * allowance 1 c)
+point_work_allowed c = by (c * (c * c)) (allowance 1 c) (made_work_allowed 1 c)
+  where
+    by : (t a : ℕ) → 1 * t ≤ a → t ≤ 8 * ((c + 1) * a)
+    by t a l = let s = add-mul c 1 a in omega (arith, l, s)
+
 pub meet_work_allowed : (own others c : ℕ) → own * (others * test_work c) ≤ allowance (own * others) c
 meet_work_allowed own others c = by (c * (c * c)) (c * pair_limit c) (test_allowed c)
   where
