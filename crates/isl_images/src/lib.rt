@@ -2,6 +2,7 @@
 #![tactic(auto)]
 
 mod differences;
+mod gathered;
 mod image;
 mod joined;
 mod pairing;

@@ -2,6 +2,7 @@
 #![tactic(auto)]
 
 mod cross;
+mod gathered;
 mod layout;
 mod near;
 mod placed;
