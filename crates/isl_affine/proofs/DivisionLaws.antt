@@ -136,7 +136,7 @@ number_at (first ∷ definitions) xs (suc i) d l =
     ∙ number_at definitions (with_next xs first) i d (omega arith)
 
 -- the number at a defined column is the one that its definition gives at the full point
-number_of : (g : Gauge) (definitions : List Definition) (xs : List ℤ) (i : ℕ) (d : Definition) → AreDefinitions g (length xs) definitions
+pub number_of : (g : Gauge) (definitions : List Definition) (xs : List ℤ) (i : ℕ) (d : Definition) → AreDefinitions g (length xs) definitions
     → i < length definitions
     → get_or (with_defined definitions xs) (length xs + i) (pos 0) ≡ defined_value (get_or definitions i d) (with_defined definitions xs)
 number_of g definitions xs i d all l =

@@ -1,5 +1,5 @@
 -- inner: linear forms over the columns of a system, and what they stand for.
-use Rattle.std.specs.Prelude.{◌≡◌, ◌<◌, ◌≤◌, ℕ, ◌+◌, ◌-◌, ℤ, pos, ◌+ℤ◌, ◌*ℤ◌, ◌<ℤ◌, Bool, List, ◌++◌, All, length, replicate}
+use Rattle.std.specs.Prelude.{◌≡◌, ◌≢◌, ◌<◌, ◌≤◌, ℕ, ◌+◌, ◌-◌, ℤ, pos, ◌+ℤ◌, ◌*ℤ◌, ◌<ℤ◌, Bool, List, ◌++◌, All, length, replicate}
 use Rattle.std.specs.Prelude.{slice_index_or}
 use Rattle.std.specs.Ordering.{int_eq}
 use Rattle.isl_math.specs.Dot.{dot}
@@ -71,6 +71,22 @@ pub record IsDivisionAt (s : System) (form : Form) (k : ℤ) (column : ℕ) : Ty
   pub inside : index < length s.definitions
   pub place : column ≡ free_columns s + index
   pub division : (d : Definition) → IsDivisionOf form k (slice_index_or s.definitions index d)
+
+-- the column has the coefficient 1, and each other one the coefficient 0
+pub record IsLone (coefs : List ℤ) (column : ℕ) : Type 0 where
+  pub one : slice_index_or coefs column (pos 0) ≡ pos 1
+  pub others : (i : ℕ) → i < length coefs → i ≢ column → slice_index_or coefs i (pos 0) ≡ pos 0
+
+-- the form is the defined column of that definition, and a number beside it
+pub record IsNested (s : System) (form : Form) (index : ℕ) : Type 0 where
+  pub inside : index < length s.definitions
+  pub column : IsLone form.coefs (free_columns s + index)
+
+-- divided by the divisor and rounded down, the other form has the number of the form divided by k at every point of the system
+pub record IsSameDivision (g : Gauge) (s : System) (form : Form) (k : ℤ) (other : Form) (divisor : ℤ) : Type 0 where
+  pub divisible : IsDivisible g s other divisor
+  pub number : (point : List ℤ) → length point ≡ free_columns s
+      → floor_div (form_at other (with_defined s.definitions point)) divisor ≡ floor_div (form_at form (with_defined s.definitions point)) k
 
 -- the column has the number of the form divided by k and rounded down
 pub record IsDivision (g : Gauge) (old new : System) (form : Form) (k : ℤ) (column : ℕ) : Type 0 where

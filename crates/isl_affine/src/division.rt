@@ -1,11 +1,12 @@
 //! Divisions of forms: columns that are found or defined.
 
-ghost use Rattle.std.specs.Prelude.{◌≡◌, ◌≤◌, ◌<ℤ◌, pos, neg_ℤ, All, length, true, IfOk, IfSome, MatchResult};
+ghost use Rattle.std.specs.Prelude.{◌≡◌, ◌≤◌, ◌+ℤ◌, ◌*ℤ◌, ◌<ℤ◌, pos, neg_ℤ, All, Some, length, true, IfOk, IfSome, MatchResult};
 ghost use Rattle.isl_math.specs.Divide.{floor_div, floor_mod};
-ghost use Rattle.isl_meter.specs.Gauge.{IsMeasured, IsCutBy};
+ghost use Rattle.isl_meter.specs.Gauge.{IsMeasured, IsCutBy, IsWithin};
 ghost use Rattle.isl_piece.specs.System.{IsSystemWithin};
 ghost use Rattle.isl_tree.specs.Term.{remainder_of};
-ghost use Rattle.isl_affine.specs.Form.{IsDivisible, IsDivision, IsDivisionAt, IsDivisionOf, IsOver, IsStep};
+ghost use Rattle.isl_affine.specs.Form.{IsDivisible, IsDivision, IsDivisionAt, IsDivisionOf, IsOver, IsSameDivision, IsStep};
+ghost use Rattle.isl_affine.specs.Form.{IsLone, IsNested};
 
 use crate::form::{Form, are_same, numbers, pad};
 use isl_meter::{Cut, Int, Meter, Overflow};
@@ -63,7 +64,7 @@ fn define(
 
 // The column of the form divided by `k`: one that is there, or a new one.
 #[tactic(auto, using(std::proofs::lemmas::Grind::common_steps, crate::proofs::DivisionLaws::founds))]
-fn column_of(
+fn found_or_defined(
     alloc: Global,
     system: &mut System,
     form: &Form,
@@ -76,6 +77,108 @@ fn column_of(
     match find(system, form, k) {
         Some(column) => Ok(column),
         None => define(alloc, system, form, k, meter),
+    }
+}
+
+// The column that has the coefficient 1, where each other one has 0.
+#[tactic(auto, using(std::proofs::lemmas::Grind::common_steps, crate::proofs::NestedLaws::lones))]
+fn lone_column(coefs: &[Int]) -> Option<usize>
+    ensures { IfSome result (IsLone coefs.now) }
+{
+    let column = coefs.iter().position(|coef| coef.get() == 1)?;
+    for i in 0..coefs.len() {
+        if i != column && coefs[i].get() != 0 {
+            return None;
+        }
+    }
+    Some(column)
+}
+
+// The place among the definitions of the one whose column the form is, but for a number beside it.
+#[tactic(auto, using(std::proofs::lemmas::Grind::common_steps, crate::proofs::NestedLaws::places))]
+fn inner_definition(system: &System, form: &Form) -> Option<usize>
+    ensures { IfSome result (IsNested system.now form.now) }
+{
+    let column = lone_column(form.coefs.as_slice())?;
+    let index = column.checked_sub(system.free())?;
+    (index < system.defined()).then_some(index)
+}
+
+// The number, where it is within the limit.
+fn within(number: Option<i128>, meter: &Meter) -> Option<Int>
+    ensures { IfSome result (λ v. (number ≡ Some v) × IsWithin meter.now v) }
+{
+    let number = number?;
+    (number.unsigned_abs() <= meter.limit().unsigned_abs()).then_some(Int::new(number))
+}
+
+// The sum, where it is within the limit.
+fn sum_within(a: Int, b: Int, meter: &Meter) -> Option<Int>
+    ensures { IfSome result (λ v. (v ≡ a +ℤ b) × IsWithin meter.now v) }
+{
+    within(a.get().checked_add(b.get()), meter)
+}
+
+// The product, where it is within the limit.
+fn product_within(a: Int, b: Int, meter: &Meter) -> Option<Int>
+    ensures { IfSome result (λ v. (v ≡ a *ℤ b) × IsWithin meter.now v) }
+{
+    within(a.get().checked_mul(b.get()), meter)
+}
+
+// A form, and what it is divided by.
+#[derive(Drop)]
+struct Division {
+    form: Form,
+    divisor: Int,
+}
+
+// One division in place of two, where the form is `F / a + c` with a defined column for `F / a`: that of `F + a c` by `a k`.
+// None for any other form, and where a number would pass the limit.
+fn unnested(
+    alloc: Global,
+    system: &System,
+    form: &Form,
+    k: Int,
+    meter: &Meter,
+) -> Result<Option<Division>, AllocError>
+    requires { IsDivisible meter.now system.now form.now k }
+    ensures { IfOk result (λ found. IfSome found (λ one. IsSameDivision meter.now system.now form.now k one.form one.divisor)) }
+{
+    let Some(index) = inner_definition(system, form) else {
+        return Ok(None);
+    };
+    let definition = &system.definitions.as_slice()[index];
+    let a = Int::new(definition.k);
+    let Some(divisor) = product_within(a, k, meter) else {
+        return Ok(None);
+    };
+    let Some(raised) = product_within(a, form.constant, meter) else {
+        return Ok(None);
+    };
+    let Some(constant) = sum_within(Int::new(definition.constant), raised, meter) else {
+        return Ok(None);
+    };
+    let coefs = definition.coefs.copy(alloc)?;
+    let form = Form { coefs, constant };
+    Ok(Some(Division { form, divisor }))
+}
+
+// The column of the form divided by `k`, in which nested divisions are one.
+#[tactic(auto, using(std::proofs::lemmas::Grind::common_steps, crate::proofs::NestedLaws::columns))]
+fn column_of(
+    alloc: Global,
+    system: &mut System,
+    form: &Form,
+    k: Int,
+    meter: &Meter,
+) -> Result<usize, AllocError>
+    requires { IsDivisible meter.now system.old form.now k }
+    ensures { IfOk result (IsDivision meter.now system.old system.new form.now k) }
+{
+    match unnested(alloc, system, form, k, meter)? {
+        Some(one) => found_or_defined(alloc, system, &one.form, one.divisor, meter),
+        None => found_or_defined(alloc, system, form, k, meter),
     }
 }
 
