@@ -12,6 +12,7 @@ ghost use Rattle.isl_column.specs.Tame.{IsTameColumn};
 ghost use Rattle.isl_column.specs.Units.{elimination_units};
 ghost use Rattle.isl_column.specs.Magnitude.{HaveSmallNumbers, HaveOneCongruence};
 
+use crate::lists::push_list;
 use crate::parts::Parts;
 use isl_meter::{Cut, Meter};
 use isl_omega::column::Column;
@@ -56,7 +57,7 @@ pub fn eliminate_rows(
     let mut parts = Parts::of(alloc, rows, column, meter)?;
     let mut answers = Vec::new(alloc);
     while let Some(left) = parts.next(alloc, column.columns - 1, meter)? {
-        answers.push(left)?;
+        push_list(&mut answers, left, column.columns)?;
     }
     Ok(answers)
 }

@@ -6,6 +6,7 @@ mod dark_shadow;
 mod eliminate;
 mod equality;
 mod exact;
+mod lists;
 mod mirror;
 mod neighbours;
 mod parts;
@@ -14,5 +15,6 @@ mod residue;
 mod splinters;
 
 pub use eliminate::eliminate_rows;
+pub use lists::{are_too_many, push_list};
 pub use parts::Parts;
 pub use real::real_shadow;

@@ -5,21 +5,9 @@ ghost use Rattle.std.specs.Prelude.{◌≡◌, ◌++◌, OnOk};
 use isl_piece::System;
 use std::alloc::AllocError;
 
-// How many numbers the rows of a list have at most, as its last system tells. More count as want of memory, so that memory is bounded as time
-// is.
-const MOST_NUMBERS: usize = 2_097_152;
-
-// So many numbers lie in a row itself: shorter rows take as much.
-const INLINE: usize = 8;
-
-/// Whether so many systems like this one have more numbers than a list keeps.
+/// Whether the rows of so many systems like this one take more memory than is kept: memory is bounded as time is.
 pub fn are_too_many(count: usize, system: &System) -> bool {
-    let numbers = system
-        .rows
-        .len()
-        .saturating_add(1)
-        .saturating_mul(system.columns.max(INLINE));
-    count.saturating_mul(numbers) > MOST_NUMBERS
+    isl_column::are_too_many(count, system.rows.as_slice(), system.columns)
 }
 
 /// Puts the other systems behind these.

@@ -2,6 +2,7 @@
 
 ghost use Rattle.std.specs.Prelude.{◌≡◌, ◌↔◌, ◌+◌, ◌*◌, ◌≤◌, ℕ, ⊤, All, IfOk, IfSome, IsTrue, MatchOption, MatchResult};
 ghost use Rattle.isl_meter.specs.Gauge.{IsCharged, IsCutBy};
+ghost use Rattle.isl_piece.specs.Normal.{IsNormal};
 ghost use Rattle.isl_piece.specs.System.{HoldsSystem, IsSystemWithin, free_columns};
 ghost use Rattle.isl_ledger.specs.Answered.{IsTame};
 ghost use Rattle.isl_ledger.specs.Difference.{IsDifferenceSystem};
@@ -9,21 +10,22 @@ ghost use Rattle.isl_elim.specs.Sample.{IsNowhere};
 ghost use Rattle.isl_difference.specs.Split.{IsLiveFormOf, IsPushed};
 ghost use Rattle.isl_difference.specs.Tame.{HasDifferenceRows};
 
-use isl_elim::is_empty;
+use isl_elim::is_normal_empty;
 use isl_meter::{Cut, Meter};
 use isl_piece::{System, normalise};
 use std::alloc::Global;
 
-// Whether the system holds at no point.
+// Whether the system, whose rows are normal, holds at no point.
 fn is_void(alloc: Global, system: &System, meter: &mut Meter) -> Result<bool, Cut>
-    requires { IsSystemWithin meter.old system.now }
+    requires well_formed { IsSystemWithin meter.old system.now }
+    requires normal { IsNormal system.now.rows }
     ensures exact { MatchResult result
         (λ empty. (IsTrue empty ↔ IsNowhere (free_columns system.now) (HoldsSystem system.now)) × IsCharged meter.old meter.new)
         (IsCutBy meter.old meter.new) }
     ensures tame { (columns bits : ℕ) → meter.old.bits ≡ 127 → bits + columns ≤ 120 → IsDifferenceSystem columns bits system.now
         → IsTame (columns * (columns * columns)) meter.old meter.new (λ _. ⊤) result }
 {
-    is_empty(alloc, system, meter)
+    is_normal_empty(alloc, system, meter)
 }
 
 /// The system in its normal form; none where it holds at no point.

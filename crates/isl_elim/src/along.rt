@@ -14,7 +14,7 @@ ghost use Rattle.isl_column.specs.Parts.{AreParts, HoldsPart, head_count};
 ghost use Rattle.isl_ledger.specs.Difference.{IsDifferenceRow};
 
 use crate::emptiness::hold_nowhere;
-use isl_column::Parts;
+use isl_column::{Parts, push_list};
 use isl_meter::{Cut, Meter};
 use isl_omega::column::Column;
 use isl_piece::Rows;
@@ -91,7 +91,7 @@ fn push_without(
         (λ bits _. AddsFewDifferences (bits + length cols.now) lists.old.items lists.new.items) result }
 {
     if cols.is_empty() {
-        lists.push(rows)?;
+        push_list(lists, rows, columns)?;
         return Ok(());
     }
     let Some(few) = simpler(alloc, rows, columns, cols, meter)? else {
@@ -169,23 +169,22 @@ fn push_parts(
 #[tactic(auto, using(crate::proofs::AlongLaws::along_steps))]
 pub(crate) fn rows_without(
     alloc: Global,
-    rows: &Rows,
+    rows: Rows,
     columns: usize,
     cols: &[usize],
     meter: &mut Meter,
 ) -> Result<Vec<Rows>, Cut>
-    requires rows { All (IsProper meter.old columns) rows.now }
+    requires rows { All (IsProper meter.old columns) rows }
     requires distinct { AllPairs (λ a b. a ≢ b) cols.now }
     requires cols_in { All (λ col. col < columns) cols.now }
     ensures exact { MatchResult result
-        (λ lists. AddsAlong meter.old columns cols.now (HoldRows rows.now) [] lists.items × IsCharged meter.old meter.new)
+        (λ lists. AddsAlong meter.old columns cols.now (HoldRows rows) [] lists.items × IsCharged meter.old meter.new)
         (IsCutBy meter.old meter.new) }
     ensures counted { IfOk result (λ lists. meter.old.units + length lists.items ≤ meter.new.units + 1) }
-    ensures tame { IsTameOn columns (λ bits. All (IsDifferenceRow bits) rows.now) (length cols.now * (columns * columns)) meter.old meter.new
+    ensures tame { IsTameOn columns (λ bits. All (IsDifferenceRow bits) rows) (length cols.now * (columns * columns)) meter.old meter.new
         (λ bits lists. AreFewDifferences (bits + length cols.now) lists.items) result }
 {
-    let copied = rows.copy(alloc)?;
-    match copied.normalise(alloc, meter)? {
+    match rows.normalise(alloc, meter)? {
         None => Ok(Vec::new(alloc)),
         Some(normal) => {
             let mut lists = Vec::new(alloc);

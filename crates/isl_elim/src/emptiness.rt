@@ -18,14 +18,13 @@ ghost use Rattle.isl_ledger.specs.Answered.{IsTame};
 ghost use Rattle.isl_ledger.specs.Difference.{IsDifferenceRow};
 ghost use Rattle.isl_ledger.specs.Work.{Size, AreOfSize};
 
-use crate::guess::{hold_at_guess, pairs_at};
 use crate::opened::opened;
 use isl_column::{Parts, real_shadow};
 use isl_meter::{Cut, Meter};
 use isl_omega::column::Column;
 use isl_piece::{Rows, System};
 use isl_redundant::without_redundant;
-use isl_simpler::{add_many_rows, any_column, reduced};
+use isl_simpler::{add_many_rows, any_column, hold_at_guess, pairs_at, reduced, without_one_sided};
 use std::alloc::{AllocError, Global};
 
 /// Whether no number makes rows over one column hold. This spends what elimination of the column does.
@@ -66,8 +65,8 @@ fn fewer(
     without_redundant(alloc, rows, columns, meter)
 }
 
-// Rows that hold nowhere exactly where these do: their numbers are smaller, and where many pairs of bounds come next they are fewer; none
-// where they are seen to hold nowhere.
+// Rows that hold nowhere exactly where these do: those on a column that they bound on one side alone are gone, their numbers are smaller,
+// and where many pairs of bounds come next they are fewer; none where they are seen to hold nowhere.
 #[tactic(auto, using(std::proofs::lemmas::Grind::common_steps, crate::proofs::FewerLaws::fewer_steps))]
 fn shorter(
     alloc: Global,
@@ -83,7 +82,8 @@ fn shorter(
     ensures tame { IsTameOn columns (λ bits. All (IsDifferenceRow bits) rows) 0 meter.old meter.new
         (λ bits found. IfSome found (All (IsDifferenceRow bits))) result }
 {
-    let Some(short) = reduced(alloc, rows, columns, meter)? else {
+    let two_sided = without_one_sided(rows, columns, meter);
+    let Some(short) = reduced(alloc, two_sided, columns, meter)? else {
         return Ok(None);
     };
     let few = fewer(alloc, short, columns, meter)?;
@@ -256,4 +256,26 @@ pub fn is_empty(alloc: Global, system: &System, meter: &mut Meter) -> Result<boo
         None => Ok(true),
         Some(rows) => hold_nowhere(alloc, rows, system.columns, meter),
     }
+}
+
+/// Whether the system, whose rows are normal, holds at no point of whole numbers: as `is_empty`, which makes rows normal first.
+///
+/// # Errors
+///
+/// `Overflow` where a number passes the limit of the meter, `Budget` where its units are used up, and `NoMemory`. Of difference constraints
+/// `is_empty` tells.
+#[tactic(auto, using(crate::proofs::OpenedLaws::opened_steps))]
+pub fn is_normal_empty(alloc: Global, system: &System, meter: &mut Meter) -> Result<bool, Cut>
+    requires well_formed { IsSystemWithin meter.old system.now }
+    requires normal { IsNormal system.now.rows }
+    ensures exact { IfOk result (λ empty. IsTrue empty ↔ IsNowhere (free_columns system.now) (HoldsSystem system.now)) }
+    ensures meter { IsMetered meter.old meter.new result }
+    ensures tame { (size : Size) → meter.old.bits ≡ 127 → size.bits + size.columns ≤ 120 → AreOfSize size (system.now ∷ [])
+        → IsTame (size.columns * (size.columns * size.columns)) meter.old meter.new (λ _. Unit {0}) result }
+{
+    if system.columns == 1 || !system.definitions.is_empty() {
+        return is_empty(alloc, system, meter);
+    }
+    let rows = system.rows.copy(alloc)?;
+    hold_nowhere(alloc, rows, system.columns, meter)
 }

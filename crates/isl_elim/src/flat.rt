@@ -57,7 +57,7 @@ pub fn flatten(alloc: Global, system: &System, meter: &mut Meter) -> Result<Vec<
     }
     let gone = columns_between(alloc, system.free(), system.columns)?;
     let rows = opened_rows(alloc, system, gone.as_slice(), meter)?;
-    let lists = rows_without(alloc, &rows, system.columns, gone.as_slice(), meter)?;
+    let lists = rows_without(alloc, rows, system.columns, gone.as_slice(), meter)?;
     let systems = systems_of(alloc, lists, &System::new(alloc, system.free()))?;
     Ok(systems)
 }

@@ -7,7 +7,6 @@ mod columns;
 mod dependents;
 mod emptiness;
 mod flat;
-mod guess;
 mod line;
 mod opened;
 mod progression;
@@ -15,7 +14,7 @@ mod projection;
 mod sample;
 
 pub use columns::columns_between;
-pub use emptiness::is_empty;
+pub use emptiness::{is_empty, is_normal_empty};
 pub use flat::flatten;
 pub use projection::{eliminate, eliminate_all, with_fewer_rows};
 pub use sample::sample_point;

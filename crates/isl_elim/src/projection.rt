@@ -77,7 +77,7 @@ fn lists_left(
         return eliminate_rows(alloc, system.rows.as_slice(), column, meter);
     }
     let rows = opened_rows(alloc, system, gone, meter)?;
-    rows_without(alloc, &rows, system.columns, gone, meter)
+    rows_without(alloc, rows, system.columns, gone, meter)
 }
 
 /// The systems without the free column `col`, of which some holds at a point of the other free columns exactly where some whole

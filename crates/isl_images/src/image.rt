@@ -16,12 +16,11 @@ ghost use Rattle.isl_images.specs.Image.{ImageHas};
 ghost use Rattle.isl_images.specs.Made.{elements_of, elements_of_all, ArePiecesOf, IsPlain};
 
 use crate::differences::with_differences;
-use crate::gathered::append;
 use crate::shadow::{Gap, pieces_without};
 use isl_meter::{Cut, Meter};
 use isl_piece::Piece;
 use isl_space::{Params, Shape, Space};
-use isl_union::{OpFault, Value};
+use isl_union::{OpFault, Value, append};
 use std::alloc::Global;
 use std::rc::Rc;
 

@@ -2,7 +2,6 @@
 #![tactic(auto)]
 
 mod differences;
-mod gathered;
 mod image;
 mod joined;
 mod pairing;

@@ -14,13 +14,13 @@ ghost use Rattle.isl_relation.specs.Together.{are_linked, is_domain, pair_count,
 ghost use Rattle.isl_images.specs.Made.{elements_of, elements_of_all, ArePiecesOf, IsPlain};
 ghost use Rattle.isl_images.specs.Pairing.{IsNarrowPair, PairHas, are_paired, may_pair};
 
-use crate::gathered::append;
 use crate::shadow::{Gap, pieces_without};
 use crate::shift::of_both;
 use isl_index::ShapeIndex;
 use isl_meter::{Cut, Meter};
 use isl_piece::Piece;
 use isl_space::{Params, Space};
+use isl_union::append;
 use std::alloc::{AllocError, Global};
 
 /// What is made of the elements of two values.

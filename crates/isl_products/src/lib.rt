@@ -2,7 +2,6 @@
 #![tactic(auto)]
 
 mod cross;
-mod gathered;
 mod layout;
 mod near;
 mod placed;

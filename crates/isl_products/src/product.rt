@@ -14,7 +14,6 @@ ghost use Rattle.isl_union.specs.Piece.{kept_piece, IsPieceOf};
 ghost use Rattle.isl_products.specs.Layout.{IsWide, are_together};
 ghost use Rattle.isl_products.specs.Made.{AreWide, IsMadeOf, IsMadeWith, IsWidePair, ProductHas};
 
-use crate::gathered::append;
 use crate::layout::{Product, layout_of};
 use crate::near::near;
 use crate::placed::joined;
@@ -23,7 +22,7 @@ use isl_index::ShapeIndex;
 use isl_meter::{Cut, Meter};
 use isl_piece::Piece;
 use isl_space::Params;
-use isl_union::{OpFault, Value, aligned_pair, live_pieces_in};
+use isl_union::{OpFault, Value, aligned_pair, append, live_pieces_in};
 use std::alloc::Global;
 
 // What is made of two pieces, for a unit where the product puts elements of their spaces together, and those of the question whether

@@ -14,7 +14,6 @@ ghost use Rattle.isl_union.specs.Numbers.{AreWithinLimit, IsPieceUpTo, IsWithinL
 ghost use Rattle.isl_union.specs.Piece.{kept_piece, IsPieceOf};
 ghost use Rattle.isl_products.specs.Made.{AreBeside, AreLeft, IsApartFrom, RemoveHas};
 
-use crate::gathered::append;
 use crate::layout::{Place, Product, layout_of};
 use crate::near::near;
 use crate::placed::placed;
@@ -23,7 +22,7 @@ use isl_index::ShapeIndex;
 use isl_meter::{Cut, Meter};
 use isl_piece::{Piece, System};
 use isl_space::{Params, Space};
-use isl_union::{OpFault, Value, aligned_pair, pieces_in};
+use isl_union::{OpFault, Value, aligned_pair, append, pieces_in};
 use std::alloc::{AllocError, Global};
 
 // The systems that hold at those elements of the piece that have at the place what the others have, which are looked at

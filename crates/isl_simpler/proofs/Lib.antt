@@ -1,2 +1,3 @@
 pub mod FixedLaws
+pub mod OneSidedLaws
 pub mod ShearLaws

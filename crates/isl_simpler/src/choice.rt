@@ -53,7 +53,7 @@ struct ColumnUse {
 }
 
 // The number that the row has at the column.
-fn number_at(row: &Row, col: usize) -> i128
+pub(crate) fn number_at(row: &Row, col: usize) -> i128
     ensures { result ≡ slice_index_or row.now.coefs col (pos 0) }
 {
     if col < row.coefs.len() {

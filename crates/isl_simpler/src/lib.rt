@@ -1,11 +1,16 @@
-//! Rows made simpler before columns go: steps by which numbers get smaller, columns that have one number, and which column goes first.
+//! Rows made simpler before columns go: steps by which numbers get smaller, columns that have one number or are bounded on one side
+//! alone, a point that is guessed, and which column goes first.
 #![tactic(auto)]
 
 mod choice;
 mod fixed;
+mod guess;
+mod one_sided;
 mod reduction;
 mod shear;
 
 pub use choice::{add_many_rows, any_column, cheapest};
 pub use fixed::with_fixed;
+pub use guess::{hold_at_guess, pairs_at};
+pub use one_sided::without_one_sided;
 pub use shear::reduced;

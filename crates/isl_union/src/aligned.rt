@@ -1,6 +1,6 @@
 //! Values over more parameters.
 
-ghost use Rattle.std.specs.Prelude.{◌≡◌, ◌↔◌, ◌++◌, All, Contains, IfOk, IsTrue, OnOk, length, map};
+ghost use Rattle.std.specs.Prelude.{◌≡◌, ◌↔◌, ◌++◌, All, Contains, IfOk, IsTrue, length, map};
 ghost use Rattle.std.specs.List.{range_with_len};
 ghost use Rattle.isl_space.specs.Names.{AreDistinct};
 ghost use Rattle.isl_piece.specs.System.{IsSystemWithin};
@@ -167,18 +167,4 @@ pub(crate) fn taken_pieces(
         return Ok(value.into_pieces());
     }
     aligned_pieces(alloc, all, &value, meter)
-}
-
-/// Puts more pieces behind these.
-///
-/// # Errors
-///
-/// Where memory ends.
-pub fn append(pieces: &mut Vec<Piece>, more: Vec<Piece>) -> Result<(), AllocError>
-    ensures { OnOk result (pieces.new.items ≡ pieces.old.items ++ more.items) }
-{
-    for piece in more {
-        pieces.push(piece)?;
-    }
-    Ok(())
 }

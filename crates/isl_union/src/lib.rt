@@ -17,10 +17,10 @@ mod sample;
 mod union;
 mod value;
 
-pub use aligned::{aligned_pieces, append};
+pub use aligned::aligned_pieces;
 pub use fault::OpFault;
 pub use live::{live_piece, push_found, settled_piece};
 pub use pair::{AlignedPair, aligned_pair};
-pub use pieces::{live_pieces_in, pieces_in};
+pub use pieces::{append, live_pieces_in, pieces_in};
 pub use union::extended;
 pub use value::Value;

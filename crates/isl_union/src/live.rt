@@ -24,7 +24,7 @@ ghost use Rattle.isl_union.specs.Piece.{kept_piece, piece_of, IsPieceOf, IsPiece
 ghost use Rattle.isl_union.specs.Tame.{size_of, systems_of, IsOfSize};
 
 use crate::Value;
-use isl_elim::is_empty;
+use isl_elim::is_normal_empty;
 use isl_meter::{Cut, Meter};
 use isl_piece::{Piece, System, normalise};
 use isl_space::{Params, Space};
@@ -43,7 +43,7 @@ fn live_system(alloc: Global, system: System, meter: &mut Meter) -> Result<Optio
     let Some(normal) = normalise(alloc, system, meter)? else {
         return Ok(None);
     };
-    if is_empty(alloc, &normal, meter)? {
+    if is_normal_empty(alloc, &normal, meter)? {
         return Ok(None);
     }
     Ok(Some(normal))

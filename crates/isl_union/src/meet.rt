@@ -22,7 +22,7 @@ ghost use Rattle.isl_union.specs.Tame.{size_of, systems_of, AreOfSizes, IsOfSize
 
 use crate::aligned::aligned_pieces;
 use crate::live::{live_piece, push_found};
-use crate::pieces::add;
+use crate::pieces::append;
 use crate::{OpFault, Value};
 use isl_index::PieceIndex;
 use isl_meter::{Cut, Meter};
@@ -146,8 +146,8 @@ fn met_pieces(
 {
     let mut met = Vec::new(alloc);
     for piece in pieces {
-        let mut more = met_with(alloc, params, piece, others, meter)?;
-        add(&mut met, &mut more)?;
+        let more = met_with(alloc, params, piece, others, meter)?;
+        append(&mut met, more)?;
     }
     Ok(met)
 }

@@ -29,9 +29,10 @@ use std::alloc::{AllocError, Global};
 /// # Errors
 ///
 /// `AllocError` where memory ends, or they are too many together: memory is bounded as time is.
-pub(crate) fn add(pieces: &mut Vec<Piece>, more: &mut Vec<Piece>) -> Result<(), AllocError>
-    ensures items { OnOk result (pieces.new.items ≡ pieces.old.items ++ more.old.items) }
+pub fn append(pieces: &mut Vec<Piece>, more: Vec<Piece>) -> Result<(), AllocError>
+    ensures { OnOk result (pieces.new.items ≡ pieces.old.items ++ more.items) }
 {
+    let mut more = more;
     let count = pieces.len().saturating_add(more.len());
     if more
         .last()
@@ -39,7 +40,7 @@ pub(crate) fn add(pieces: &mut Vec<Piece>, more: &mut Vec<Piece>) -> Result<(), 
     {
         return Err(AllocError);
     }
-    pieces.append(more)
+    pieces.append(&mut more)
 }
 
 /// A piece of the space for each of the systems, in their order.

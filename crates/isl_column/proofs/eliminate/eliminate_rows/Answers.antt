@@ -52,11 +52,11 @@ loop-answers-preserved c =
     let alone = rw found at c.in_ok-left.ensures.alone in
     let pairs = c.in_ok-left.ensures.pairs in
     let magnitude = rw found at c.in_ok-left.ensures.magnitude in
-    let more : c.push.new.self.items ≡ c.loop-answers.answers.items ++ left ∷ [] = grind arith in
-    answered_next g h k c.args.column.columns c.args.column.at c.args.rows.now c.loop-answers.answers.items c.push.new.self.items c.loop-answers.parts c.next.new.self left a e.0 e.1 rest counted (λ bits x. magnitude (same_limit g h a.charged ∙ bits) x) alone pairs more
+    let more : c.push_list.new.lists.items ≡ c.loop-answers.answers.items ++ left ∷ [] = grind arith in
+    answered_next g h k c.args.column.columns c.args.column.at c.args.rows.now c.loop-answers.answers.items c.push_list.new.lists.items c.loop-answers.parts c.next.new.self left a e.0 e.1 rest counted (λ bits x. magnitude (same_limit g h a.charged ∙ bits) x) alone pairs more
 
-pub returns-in_err-push-clause-units : goal.returns-in_err-push-clause-units
-returns-in_err-push-clause-units c =
+pub returns-in_err-push_list-clause-units : goal.returns-in_err-push_list-clause-units
+returns-in_err-push_list-clause-units c =
     let g = c.args.meter.now in
     let h = c.loop-answers.meter in
     let k = c.next.new.meter in
@@ -65,8 +65,8 @@ returns-in_err-push-clause-units c =
     let before = a.units in
     omega (arith, linear)
 
-pub returns-in_err-push-clause-equality : goal.returns-in_err-push-clause-equality
-returns-in_err-push-clause-equality c = λ q.
+pub returns-in_err-push_list-clause-equality : goal.returns-in_err-push_list-clause-equality
+returns-in_err-push_list-clause-equality c = λ q.
     let g = c.args.meter.now in
     let h = c.loop-answers.meter in
     let k = c.next.new.meter in
@@ -143,13 +143,13 @@ returns-in_err-left-clause-tame c =
     tame_never c.args.meter.now c.next.new.meter c.args.rows.now c.args.column.at _
     (λ exact none. let head = a.exact exact none in alone head.head head.alone) (λ equality. let head = a.solved equality in alone head.head head.alone)
 
-pub returns-in_err-push-clause-tame : goal.returns-in_err-push-clause-tame
-returns-in_err-push-clause-tame c =
+pub returns-in_err-push_list-clause-tame : goal.returns-in_err-push_list-clause-tame
+returns-in_err-push_list-clause-tame c =
     let g = c.args.meter.now in
     let k = c.next.new.meter in
     let rows = c.args.rows.now in
     let col = c.args.column.at in
-    let p = err_from_is_err_and c.from_residual-in_err-push.result c.from_residual-in_err-push.ensures.1 in
+    let p = err_from_is_err_and c.from_residual-in_err-push_list.result c.from_residual-in_err-push_list.ensures.1 in
     let few = answered_units g c.loop-answers.meter k c.args.column.columns col rows c.loop-answers.answers.items c.loop-answers.parts c.in_ok-left.field-0
     c.loop-answers.invariant c.in_ok-left.ensures.alone in
     rw (p.1, p.2) (tame_used g k rows col (Err NoMemory) refl few.0 few.1)

@@ -48,21 +48,21 @@ push_without-returns-then-is_empty t c =
     let g = c.args.meter.now in
     let empty : length c.args.cols.now ≡ 0 = grind arith in
     let none = nil_from_length c.args.cols.now empty in
-    let pushed : c.push.new.self.items ≡ c.args.lists.now.items ++ c.args.rows ∷ [] = grind arith in
+    let pushed : c.push_list.new.lists.items ≡ c.args.lists.now.items ++ c.args.rows ∷ [] = grind arith in
     record {
       exact = (
-        along_none g c.args.columns c.args.cols.now c.args.rows c.args.lists.now.items c.push.new.self.items none c.requires.rows
+        along_none g c.args.columns c.args.cols.now c.args.rows c.args.lists.now.items c.push_list.new.lists.items none c.requires.rows
             c.requires.normal pushed,
         IsCharged_refl g g refl,
       );
-      counted = one_more g.units c.args.lists.now.items c.push.new.self.items c.args.rows pushed;
+      counted = one_more g.units c.args.lists.now.items c.push_list.new.lists.items c.args.rows pushed;
       tame = record {
         tame = λ bits full room given.
             let same : bits ≡ bits + length c.args.cols.now = omega arith in
             tame_ok (length c.args.cols.now * (c.args.columns * c.args.columns)) g g
-            (λ _. AddsFewDifferences (bits + length c.args.cols.now) c.args.lists.now.items c.push.new.self.items) _ (omega arith)
-            (subst (λ b. AddsFewDifferences b c.args.lists.now.items c.push.new.self.items) same
-            (adds_one bits c.args.rows c.args.lists.now.items c.push.new.self.items pushed given));
+            (λ _. AddsFewDifferences (bits + length c.args.cols.now) c.args.lists.now.items c.push_list.new.lists.items) _ (omega arith)
+            (subst (λ b. AddsFewDifferences b c.args.lists.now.items c.push_list.new.lists.items) same
+            (adds_one bits c.args.rows c.args.lists.now.items c.push_list.new.lists.items pushed given));
       };
     }
 
@@ -172,14 +172,14 @@ push_some-returns-then-branch-clause-exact t c =
     let nowhere : HoldNowhere c.args.columns c.args.rows = rw copied at (answer.0.0 (grind arith)) in
     (along_nowhere g c.args.columns c.args.cols.now c.args.rows c.args.lists.now.items nowhere, answer.1)
 
-pub push_without-returns-in_err-push-clause-tame : goal.push_without-returns-in_err-push-clause-tame
-push_without-returns-in_err-push-clause-tame t c = record {
+pub push_without-returns-in_err-push_list-clause-tame : goal.push_without-returns-in_err-push_list-clause-tame
+push_without-returns-in_err-push_list-clause-tame t c = record {
   tame = λ bits full room given.
       let g = c.args.meter.now in
       let n = length c.args.cols.now in
       let p = err_from_is_err_and c.from_residual.result c.from_residual.ensures.1 in
       rw (p.1, p.2) (tame_memory (n * (c.args.columns * c.args.columns)) g g
-      (λ _. AddsFewDifferences (bits + n) c.args.lists.now.items c.push.new.self.items) (omega arith));
+      (λ _. AddsFewDifferences (bits + n) c.args.lists.now.items c.push_list.new.lists.items) (omega arith));
 }
 
 pub push_without-returns-in_err-few-clause-tame : goal.push_without-returns-in_err-few-clause-tame

@@ -13,27 +13,27 @@ returns-then-branch-clause-exact c =
     let kept = c.in-Some.normal in
     let is : normal_system s ≡ Some kept = sym c.in_ok-normal.ensures.exact ∙ c.in-Some.is in
     let same = rw c.in-Some.is at c.in_ok-normal.ensures.points in
-    (system_nowhere s kept is same (c.in_ok-is_empty.ensures.exact.0 c.if-branch.true), grind (arith, charges))
+    (system_nowhere s kept is same (c.in_ok-is_normal_empty.ensures.exact.0 c.if-branch.true), grind (arith, charges))
 
 pub returns-clause-exact : goal.returns-clause-exact
 returns-clause-exact c =
     let s = c.args.system in
     let kept = c.in-Some.normal in
     let is : normal_system s ≡ Some kept = sym c.in_ok-normal.ensures.exact ∙ c.in-Some.is in
-    ((is, λ n. not_true c.in_ok-is_empty.field-0 c.if-branch.false (c.in_ok-is_empty.ensures.exact.1 n)), grind (arith, charges))
+    ((is, λ n. not_true c.in_ok-is_normal_empty.field-0 c.if-branch.false (c.in_ok-is_normal_empty.ensures.exact.1 n)), grind (arith, charges))
 
 -- ---- of difference constraints
-pub returns-in_err-is_empty-clause-tame : goal.returns-in_err-is_empty-clause-tame
-returns-in_err-is_empty-clause-tame c = λ columns bits limit room d.
+pub returns-in_err-is_normal_empty-clause-tame : goal.returns-in_err-is_normal_empty-clause-tame
+returns-in_err-is_normal_empty-clause-tame c = λ columns bits limit room d.
     let w = columns * (columns * columns) in
     let s = c.args.system in
     let kept = c.in-Some.normal in
     let is : Some kept ≡ normal_system s = sym c.in-Some.is ∙ c.in_ok-normal.ensures.exact in
     let system = normal_difference_system columns bits s kept is (rw c.in-Some.is at c.in_ok-normal.ensures.normal) d in
-    let p = err_from_is_err_and c.from_residual-in_err-is_empty.result c.from_residual-in_err-is_empty.ensures.1 in
-    let cut = (rw c.in_ok-normal.ensures.meter at c.in_err-is_empty.ensures.tame) (size_of 1 columns bits) limit room
+    let p = err_from_is_err_and c.from_residual-in_err-is_normal_empty.result c.from_residual-in_err-is_normal_empty.ensures.1 in
+    let cut = (rw c.in_ok-normal.ensures.meter at c.in_err-is_normal_empty.ensures.tame) (size_of 1 columns bits) limit room
     (one_of_size columns bits kept system) in
-    rw (p.1, p.2) (tame_cut_first w c.args.meter.now c.is_empty.new.meter _ _ c.in_err-is_empty.field-0.0 cut)
+    rw (p.1, p.2) (tame_cut_first w c.args.meter.now c.is_normal_empty.new.meter _ _ c.in_err-is_normal_empty.field-0.0 cut)
 
 pub returns-then-branch-clause-tame : goal.returns-then-branch-clause-tame
 returns-then-branch-clause-tame c = λ columns bits limit room d.
@@ -42,9 +42,9 @@ returns-then-branch-clause-tame c = λ columns bits limit room d.
     let kept = c.in-Some.normal in
     let is : Some kept ≡ normal_system s = sym c.in-Some.is ∙ c.in_ok-normal.ensures.exact in
     let system = normal_difference_system columns bits s kept is (rw c.in-Some.is at c.in_ok-normal.ensures.normal) d in
-    let asked = (rw c.in_ok-normal.ensures.meter at c.in_ok-is_empty.ensures.tame) (size_of 1 columns bits) limit room
+    let asked = (rw c.in_ok-normal.ensures.meter at c.in_ok-is_normal_empty.ensures.tame) (size_of 1 columns bits) limit room
     (one_of_size columns bits kept system) in
-    tame_ok w c.args.meter.now c.is_empty.new.meter _ _ asked.within.units tt
+    tame_ok w c.args.meter.now c.is_normal_empty.new.meter _ _ asked.within.units tt
 
 pub returns-clause-tame : goal.returns-clause-tame
 returns-clause-tame c = λ columns bits limit room d.
@@ -53,6 +53,6 @@ returns-clause-tame c = λ columns bits limit room d.
     let kept = c.in-Some.normal in
     let is : Some kept ≡ normal_system s = sym c.in-Some.is ∙ c.in_ok-normal.ensures.exact in
     let system = normal_difference_system columns bits s kept is (rw c.in-Some.is at c.in_ok-normal.ensures.normal) d in
-    let asked = (rw c.in_ok-normal.ensures.meter at c.in_ok-is_empty.ensures.tame) (size_of 1 columns bits) limit room
+    let asked = (rw c.in_ok-normal.ensures.meter at c.in_ok-is_normal_empty.ensures.tame) (size_of 1 columns bits) limit room
     (one_of_size columns bits kept system) in
-    tame_ok w c.args.meter.now c.is_empty.new.meter _ _ asked.within.units system
+    tame_ok w c.args.meter.now c.is_normal_empty.new.meter _ _ asked.within.units system

@@ -53,9 +53,9 @@ loop-piece-preserved c =
     let met = c.loop-piece.met.items in
     let so_far = c.loop-piece.invariant in
     record {
-      met = pieces_step pieces piece i low c.piece-item.is params others met c.add.new.pieces.items more c.in_ok-more.ensures.exact
-          c.in_ok-add.ensures.items so_far.met;
-      sound = rw c.in_ok-add.ensures.items (All-append (IsPieceOf params) met more so_far.sound c.in_ok-more.ensures.sound);
+      met = pieces_step pieces piece i low c.piece-item.is params others met c.append.new.pieces.items more c.in_ok-more.ensures.exact
+          c.in_ok-append.ensures so_far.met;
+      sound = rw c.in_ok-append.ensures (All-append (IsPieceOf params) met more so_far.sound c.in_ok-more.ensures.sound);
       tame = λ columns bits limit room own all.
           let n = length c.args.others.now in
           let before = so_far.tame columns bits limit room own all in
@@ -66,7 +66,7 @@ loop-piece-preserved c =
           let second = asked.within.units in
           let turns = turn_more i (n * test_work columns) in (
             omega (arith, first, second, turns),
-            sizes_append (i * n) n ((i + 1) * n) columns bits met more c.add.new.pieces.items (turn_more i n) c.in_ok-add.ensures.items
+            sizes_append (i * n) n ((i + 1) * n) columns bits met more c.append.new.pieces.items (turn_more i n) c.in_ok-append.ensures
                 before.1 asked.answer,
           );
       used = pieces_used pieces piece i low c.piece-item.is params others c.args.meter.now c.loop-piece.meter c.met_with.new.meter
@@ -92,8 +92,8 @@ returns-in_err-more-clause-tame c = λ columns bits limit room own all.
     rw (p.1, p.2) (tame_cut (i * w) w (length pieces * w) g h c.met_with.new.meter _ _ c.in_err-more.field-0.0 so_far.used.charged first turns
     (c.in_err-more.ensures.tame columns bits later room here all))
 
-pub returns-in_err-add-clause-tame : goal.returns-in_err-add-clause-tame
-returns-in_err-add-clause-tame c = λ columns bits limit room own all.
+pub returns-in_err-append-clause-tame : goal.returns-in_err-append-clause-tame
+returns-in_err-append-clause-tame c = λ columns bits limit room own all.
     let g = c.args.meter.now in
     let h = c.loop-piece.meter in
     let pieces = c.args.pieces.now in
@@ -105,7 +105,7 @@ returns-in_err-add-clause-tame c = λ columns bits limit room own all.
     let here = item_system (IsDifferenceSystem columns bits) pieces i c.piece-item.result low c.piece-item.is own in
     let later = sym (charged_bits g h so_far.used.charged) ∙ limit in
     let turns = turn_fits i (length pieces) w low in
-    let p = err_from_is_err_and c.from_residual-in_err-add.result c.from_residual-in_err-add.ensures.1 in
+    let p = err_from_is_err_and c.from_residual-in_err-append.result c.from_residual-in_err-append.ensures.1 in
     let second = (c.in_ok-more.ensures.tame columns bits later room here all).within.units in
     rw (p.1, p.2) (tame_memory (i * w + w) (length pieces * w) g c.met_with.new.meter _ (omega (arith, first, second)) turns)
 

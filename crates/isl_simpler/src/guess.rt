@@ -4,6 +4,7 @@ ghost use Rattle.std.specs.Prelude.{All, IfOk, IsTrue};
 ghost use Rattle.isl_omega.specs.Column.{IsProper};
 ghost use Rattle.isl_simpler.specs.Emptiness.{HoldNowhere};
 
+use crate::choice::number_at;
 use isl_meter::Meter;
 use isl_piece::{Row, RowKind, Rows};
 use std::alloc::{AllocError, Global};
@@ -28,13 +29,8 @@ struct Step {
     failing: usize,
 }
 
-// The number that the row has at the column.
-fn number_at(row: &Row, col: usize) -> i128 {
-    row.coefs.as_slice().get(col).map_or(0, |c| c.get())
-}
-
 /// How many pairs of bounds the column has; none where an equality has it.
-pub(crate) fn pairs_at(rows: &[Row], col: usize) -> usize {
+pub fn pairs_at(rows: &[Row], col: usize) -> usize {
     let mut lowers: usize = 0;
     let mut uppers: usize = 0;
     for row in rows {
@@ -155,7 +151,11 @@ impl Guess {
 
 /// Whether the rows hold at a point that is guessed; else they may hold somewhere, or nowhere. None is guessed where some column has
 /// few pairs of bounds.
-pub(crate) fn hold_at_guess(
+///
+/// # Errors
+///
+/// `AllocError` where memory ends.
+pub fn hold_at_guess(
     alloc: Global,
     rows: &Rows,
     columns: usize,

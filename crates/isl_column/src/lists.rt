@@ -1,0 +1,51 @@
+//! Lists of rows, and how many of them are kept.
+
+ghost use Rattle.std.specs.Prelude.{◌≡◌, ◌++◌, ◌∷◌, [], OnOk};
+
+use isl_piece::{Row, Rows};
+use std::alloc::AllocError;
+
+// How many bytes the rows of all lists take at most, as the last one tells. More count as want of memory, so that memory is bounded as time
+// is.
+const MOST_BYTES: usize = 100_663_296;
+
+// A row takes so many bytes, and so many coefficients lie in it; where there are more, each takes so many beside it.
+const ROW_BYTES: usize = 208;
+
+const INLINE: usize = 8;
+
+const NUMBER_BYTES: usize = 16;
+
+// How many bytes a row over so many columns takes.
+fn row_bytes(columns: usize) -> usize {
+    if columns <= INLINE {
+        return ROW_BYTES;
+    }
+    columns
+        .saturating_mul(NUMBER_BYTES)
+        .saturating_add(ROW_BYTES)
+}
+
+/// Whether so many lists of rows like these, over so many columns, take more memory than is kept.
+pub fn are_too_many(count: usize, rows: &[Row], columns: usize) -> bool {
+    let of_one = rows.len().saturating_add(1);
+    count
+        .saturating_mul(of_one)
+        .saturating_mul(row_bytes(columns))
+        > MOST_BYTES
+}
+
+/// Puts the rows, which are over so many columns, behind the other lists.
+///
+/// # Errors
+///
+/// `AllocError` where memory ends, or they are too many together.
+pub fn push_list(lists: &mut Vec<Rows>, rows: Rows, columns: usize) -> Result<(), AllocError>
+    ensures { OnOk result (lists.new.items ≡ lists.old.items ++ rows ∷ []) }
+{
+    if are_too_many(lists.len(), rows.as_slice(), columns) {
+        return Err(AllocError);
+    }
+    lists.push(rows)?;
+    Ok(())
+}
