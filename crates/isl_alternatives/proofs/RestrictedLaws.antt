@@ -20,7 +20,9 @@ use Rattle.isl_difference.proofs.RowCases.{systems_cases}
 use Rattle.isl_difference.proofs.SplitLaws.{system_kept}
 use Rattle.isl_affine.specs.Scope.{Scope, IsNumbered}
 use Rattle.isl_tree.specs.Environment.{Environment}
-use Rattle.isl_alternatives.specs.Restricted.{AreRestricted, Condition, IsOver}
+use Rattle.isl_piece.specs.Row.{HoldsRow}
+use Rattle.isl_piece.specs.Definition.{with_defined}
+use Rattle.isl_alternatives.specs.Restricted.{AreRestricted, Condition, HoldEverywhere, IsOver}
 
 -- ---- the limit at another time
 over_kept : (g h : Gauge) (scope : Scope) (s : System) → h.bits ≡ g.bits → IsOver h scope s → IsOver g scope s
@@ -60,6 +62,22 @@ restricted_none g scope a P p = record {
   points = λ point env l n. let Q : System → Type 0 = λ s. HoldsSystem s point in
       ((λ h. absurd (Any-none Q h)), (λ h. absurd (p point env h.1)));
 }
+
+-- what a system that holds everywhere leaves of others is these themselves
+pub everywhere_met : (g h : Gauge) (scope : Scope) (systems others : List System) → HoldEverywhere systems → All (IsOver g scope) others
+    → IsCharged g h → length others + g.units ≤ h.units + 1
+    → AreRestricted g h scope systems (λ point env. HoldsAtAny others point) others
+everywhere_met g h scope systems others e over charged units =
+    let holds : (point : List ℤ) → HoldsSystem e.one point =
+    λ point. rw e.rows (All-nil (λ (r : Row). HoldsRow r (with_defined e.one.definitions point))) in
+    let whole : (point : List ℤ) → HoldsAtAny systems point =
+    λ point. rw e.alone (Any-first (λ (s : System). HoldsSystem s point) e.one [] (holds point)) in
+    record {
+      charged = charged;
+      over = over;
+      counted = let long = ap (λ (xs : List System). length xs) e.alone in omega (arith, long);
+      points = λ point env l n. ((λ h. (whole point, h)), (λ x. x.1));
+    }
 
 -- whether the condition holds is decided
 decided : (g h : Gauge) (scope : Scope) (a : List System) (P : Condition) (b : List System) → AreRestricted g h scope a P b

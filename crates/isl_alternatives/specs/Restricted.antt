@@ -37,6 +37,13 @@ pub record AreWhere (g h : Gauge) (scope : Scope) (P : Condition) (new : List Sy
   pub points : (point : List ℤ) (env : Environment) → length point ≡ length scope → IsNumbered scope point env
       → HoldsAtAny new point ↔ P point env
 
+-- one system, which asks nothing and defines no column
+pub record HoldEverywhere (systems : List System) : Type 0 where
+  pub one : System
+  pub alone : systems ≡ one ∷ []
+  pub rows : one.rows ≡ []
+  pub definitions : one.definitions ≡ []
+
 -- ---- conditions
 -- it holds, or it does not
 abbrev pub HoldsAs : Bool → (Environment → Type 0) → Condition

@@ -11,6 +11,7 @@ ghost use Rattle.isl_alternatives.specs.Known.{AreBindersKnown};
 ghost use Rattle.isl_alternatives.specs.Restricted.{IsOver, IsBodyOf, AreProjected, MatchesValue};
 
 use isl_affine::{Scope, with_entry};
+use isl_difference::append;
 use isl_elim::{columns_between, eliminate_all, with_fewer_rows};
 use isl_meter::{Cut, Meter};
 use isl_piece::System;
@@ -99,7 +100,7 @@ pub(crate) fn projected(
             continue;
         };
         let mut more = eliminate_all(alloc, &few, columns.as_slice(), meter)?;
-        found.append(&mut more)?;
+        append(&mut found, &mut more)?;
     }
     Ok(found)
 }

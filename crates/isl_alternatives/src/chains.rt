@@ -12,6 +12,7 @@ ghost use Rattle.isl_tree.specs.Formula.{ChainHolds};
 use crate::comparisons::Comparisons;
 use crate::lists::{ROOM, begun, copies, with_room};
 use isl_affine::{Comparison, Scope, with_comparison};
+use isl_difference::append;
 use isl_meter::{Cut, Meter};
 use isl_piece::System;
 use isl_tree::tree::{Compare, Link, Term};
@@ -98,7 +99,7 @@ fn compared(
     let mut below = with_row(alloc, base, &less, scope, meter)?;
     let rest = begun(alloc, systems.as_slice(), below.as_slice(), meter)?;
     let mut above = with_row(alloc, rest, &greater, scope, meter)?;
-    below.append(&mut above)?;
+    append(&mut below, &mut above)?;
     Ok(below)
 }
 
@@ -150,7 +151,7 @@ fn with_denied(
         };
         let base = begun(alloc, systems, found.as_slice(), meter)?;
         let mut more = compared(alloc, base, &denied, scope, meter)?;
-        found.append(&mut more)?;
+        append(&mut found, &mut more)?;
     }
     Ok(found)
 }

@@ -80,7 +80,7 @@ fn restricted(
         Formula::Exists(binders, body) => {
             let found = exists(alloc, binders.as_slice(), body.get(), scope, meter)?;
             let all = systems.as_slice();
-            let new = selected(alloc, all, found.as_slice(), polarity.holds, scope, meter)?;
+            let new = selected(alloc, all, found, polarity.holds, scope, meter)?;
             Ok(new)
         }
         Formula::Chain(first, links) => {

@@ -1,21 +1,35 @@
 //! Lists of systems: copied, met with others, without others, in their normal form, and without those that hold nowhere.
 
-ghost use Rattle.std.specs.Prelude.{◌≡◌, ◌⊎◌, ◌+◌, ◌≤◌, ◌++◌, [], All, IfOk, MatchResult, length};
+ghost use Rattle.std.specs.Prelude.{◌≡◌, ◌⊎◌, ◌+◌, ◌≤◌, ◌++◌, [], All, IfOk, IsTrue, MatchResult, length};
 ghost use Rattle.isl_meter.specs.Gauge.{Gauge, IsCharged, IsCutBy};
 ghost use Rattle.isl_piece.specs.Normal.{IsNormal};
 ghost use Rattle.isl_piece.specs.System.{HoldsSystem, free_columns};
 ghost use Rattle.isl_elim.specs.Elimination.{HoldsAtAny};
 ghost use Rattle.isl_affine.specs.Scope.{Scope as Names};
-ghost use Rattle.isl_alternatives.specs.Restricted.{AreRestricted, HoldsAs, IsOver};
+ghost use Rattle.isl_alternatives.specs.Restricted.{AreRestricted, HoldEverywhere, HoldsAs, IsOver};
 
 use isl_affine::Scope;
 use isl_difference::{append, live_form, outside, references};
 use isl_meter::{Cut, Meter};
-use isl_piece::{System, meet, normalise};
+use isl_piece::{Rows, System, meet, normalise};
 use std::alloc::{AllocError, Global};
 
 /// So many rows a system may have before it is made normal.
 pub(crate) const ROOM: usize = 1_024;
+
+// So many rows more a copied system takes without new memory: mostly one row comes, or both of an interval.
+const MORE_ROWS: usize = 2;
+
+// A copy of the system, with room for some rows more.
+fn roomy_copy(alloc: Global, system: &System) -> Result<System, AllocError>
+    ensures { IfOk result (λ copy. copy ≡ system.now) }
+{
+    let room = system.rows.len().saturating_add(MORE_ROWS);
+    let mut rows = Rows::with_capacity(alloc, room)?;
+    rows.append(alloc, &system.rows)?;
+    let definitions = system.definitions.copy(alloc)?;
+    Ok(System::over(system.columns, definitions, rows))
+}
 
 /// Copies of the systems.
 pub(crate) fn copies(alloc: Global, systems: &[System]) -> Result<Vec<System>, AllocError>
@@ -23,7 +37,7 @@ pub(crate) fn copies(alloc: Global, systems: &[System]) -> Result<Vec<System>, A
 {
     let mut copies = Vec::with_capacity(alloc, systems.len())?;
     for system in systems {
-        copies.push(system.copy(alloc)?)?;
+        copies.push(roomy_copy(alloc, system)?)?;
     }
     Ok(copies)
 }
@@ -123,26 +137,59 @@ fn without(
     Ok(found)
 }
 
+// Whether there is one system, which holds at every point and defines no column.
+fn hold_everywhere(systems: &[System]) -> bool
+    ensures { IsTrue result → HoldEverywhere systems.now }
+{
+    match systems {
+        [system] => system.rows.is_empty() && system.definitions.is_empty(),
+        _ => false,
+    }
+}
+
+// The others themselves, for a unit for each but the first: they are what the system that holds everywhere leaves of them.
+#[tactic(auto, using(std::proofs::lemmas::Grind::common_steps, isl_meter::proofs::CutLemmas::charges, crate::proofs::RestrictedLaws::everywhere_met))]
+fn met_everywhere(
+    systems: &[System],
+    others: Vec<System>,
+    scope: &Scope,
+    meter: &mut Meter,
+) -> Result<Vec<System>, Cut>
+    requires everywhere { HoldEverywhere systems.now }
+    requires others_over { All (IsOver meter.old scope.now) others.items }
+    ensures { MatchResult result
+        (λ met. AreRestricted meter.old meter.new scope.now systems.now (λ point env. HoldsAtAny others.items point) met.items)
+        (IsCutBy meter.old meter.new) }
+{
+    for _other in 0..others.len().saturating_sub(1) {
+        meter.unit()?;
+    }
+    Ok(others)
+}
+
 /// The systems together with some of the others, or without all of them.
 pub(crate) fn selected(
     alloc: Global,
     systems: &[System],
-    others: &[System],
+    others: Vec<System>,
     holds: bool,
     scope: &Scope,
     meter: &mut Meter,
 ) -> Result<Vec<System>, Cut>
     requires over { All (IsOver meter.old scope.now) systems.now }
-    requires others_over { All (IsOver meter.old scope.now) others.now }
+    requires others_over { All (IsOver meter.old scope.now) others.items }
     ensures { MatchResult result
         (λ new. AreRestricted meter.old meter.new scope.now systems.now
-        (λ point env. HoldsAs holds (λ e. HoldsAtAny others.now point) point env) new.items)
+        (λ point env. HoldsAs holds (λ e. HoldsAtAny others.items point) point env) new.items)
         (IsCutBy meter.old meter.new) }
 {
-    if holds {
-        return met(alloc, systems, others, scope, meter);
+    if !holds {
+        return without(alloc, systems, others.as_slice(), scope, meter);
     }
-    without(alloc, systems, others, scope, meter)
+    if hold_everywhere(systems) {
+        return met_everywhere(systems, others, scope, meter);
+    }
+    met(alloc, systems, others.as_slice(), scope, meter)
 }
 
 /// The systems in their normal form, without those of which a row holds nowhere. No unit is used.

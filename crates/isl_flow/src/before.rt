@@ -22,7 +22,7 @@ use isl_blocks::live_without;
 use isl_meter::{Cut, Meter};
 use isl_piece::Piece;
 use isl_space::{Params, Space};
-use isl_union::{OpFault, Value, pieces_in};
+use isl_union::{OpFault, Value, append, pieces_in};
 use std::alloc::Global;
 
 // The pieces from source to sink of a precedence.
@@ -62,8 +62,8 @@ pub(crate) fn all_pieces_of(
 {
     let mut made = Vec::new(alloc);
     for precedence in precedences {
-        let mut more = pieces_of(alloc, params, precedence, meter)?;
-        made.append(&mut more)?;
+        let more = pieces_of(alloc, params, precedence, meter)?;
+        append(&mut made, more)?;
     }
     Ok(made)
 }

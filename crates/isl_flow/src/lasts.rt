@@ -17,6 +17,7 @@ use crate::later::Later;
 use crate::over::{Remainder, left_over};
 use crate::precedence::Precedence;
 use isl_blocks::spread;
+use isl_difference::append;
 use isl_meter::{Cut, Meter};
 use isl_piece::{Piece, System};
 use isl_space::{Params, Space};
@@ -89,7 +90,7 @@ fn all_later_systems(
     let mut made = Vec::new(alloc);
     for later in laters {
         let mut more = later_systems(alloc, params, forms, later)?;
-        made.append(&mut more)?;
+        append(&mut made, &mut more)?;
     }
     Ok(made)
 }
@@ -143,8 +144,8 @@ pub(crate) fn all_lasts(
 {
     let mut made = Vec::new(alloc);
     for precedence in precedences {
-        let mut more = lasts_of(alloc, params, precedence, laters, meter)?;
-        made.append(&mut more)?;
+        let more = lasts_of(alloc, params, precedence, laters, meter)?;
+        isl_union::append(&mut made, more)?;
     }
     Ok(made)
 }

@@ -12,6 +12,7 @@ ghost use Rattle.isl_flow.specs.Made.{AreMade};
 ghost use Rattle.isl_flow.specs.Precedence.{IsPlainPrecedence, IsPrecedence};
 
 use crate::forms::Forms;
+use crate::gathered::append_laters;
 use crate::precedence::Precedence;
 use isl_blocks::{Direction, live_without, order_case, spread};
 use isl_meter::{Cut, Meter};
@@ -123,7 +124,7 @@ pub(crate) fn all_laters(
     let mut made = Vec::new(alloc);
     for precedence in precedences {
         let mut more = laters_of(alloc, params, precedence, meter)?;
-        made.append(&mut more)?;
+        append_laters(&mut made, &mut more)?;
     }
     Ok(made)
 }

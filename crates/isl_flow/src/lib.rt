@@ -3,6 +3,7 @@
 
 mod before;
 mod forms;
+mod gathered;
 mod lasts;
 mod later;
 mod live;

@@ -5,6 +5,7 @@ ghost use Rattle.isl_meter.specs.Gauge.{IsMetered};
 ghost use Rattle.isl_flow.specs.Made.{AreMade};
 ghost use Rattle.isl_flow.specs.Precedence.{HasOccurrence, IsAccessed, IsPlainPrecedence};
 
+use crate::gathered::append;
 use crate::precedence::Precedence;
 use isl_difference::live_form;
 use isl_meter::{Cut, Meter};
@@ -51,7 +52,7 @@ pub(crate) fn all_live(
     let mut made = Vec::new(alloc);
     for precedence in precedences {
         let mut more = live_of(alloc, params, precedence, meter)?;
-        made.append(&mut more)?;
+        append(&mut made, &mut more)?;
     }
     Ok(made)
 }

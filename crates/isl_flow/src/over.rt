@@ -9,7 +9,7 @@ ghost use Rattle.isl_flow.specs.Over.{row_alone, GivesColumn, GivesLast, HoldsGi
 ghost use Rattle.isl_flow.specs.Over.{IsReduced, IsRemainder, IsShortened};
 
 use isl_blocks::{live_without, without_last};
-use isl_difference::{outside, references};
+use isl_difference::{append, outside, references};
 use isl_meter::{Cut, Int, Meter};
 use isl_piece::{Coefs, Row, RowKind, Rows, System, meet};
 use std::alloc::{AllocError, Global};
@@ -100,7 +100,7 @@ fn all_given(
     let mut made = Vec::new(alloc);
     for other in others {
         let mut more = given(alloc, other, one, columns, meter)?;
-        made.append(&mut more)?;
+        append(&mut made, &mut more)?;
     }
     Ok(made)
 }
@@ -192,7 +192,7 @@ fn all_live_without(
     let mut made = Vec::new(alloc);
     for system in systems {
         let mut more = live_without(alloc, system, kept, count, meter)?;
-        made.append(&mut more)?;
+        append(&mut made, &mut more)?;
     }
     Ok(made)
 }

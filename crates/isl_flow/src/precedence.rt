@@ -12,6 +12,7 @@ ghost use Rattle.isl_flow.specs.Precedence.{StopsAt};
 ghost use Rattle.isl_flow.specs.WideAccess.{IsWideAccess};
 
 use crate::forms::{Forms, forms_of, widths_for};
+use crate::gathered::append;
 use crate::order::ordered;
 use crate::spreads::{Accesses, timed_accesses};
 use isl_meter::{Cut, Meter};
@@ -88,7 +89,7 @@ fn from_start(
     let mut made = Vec::new(alloc);
     for stop in times {
         let mut more = between(alloc, params, accesses, start, stop, meter)?;
-        made.append(&mut more)?;
+        append(&mut made, &mut more)?;
     }
     Ok(made)
 }
@@ -117,7 +118,7 @@ fn of_accesses(
     let mut made = Vec::new(alloc);
     for start in times {
         let mut more = from_start(alloc, params, accesses, start, times, meter)?;
-        made.append(&mut more)?;
+        append(&mut made, &mut more)?;
     }
     Ok(made)
 }
@@ -148,7 +149,7 @@ fn of_source(
     for sink in sinks {
         let accesses = Accesses { source, sink };
         let mut more = of_accesses(alloc, params, &accesses, times, meter)?;
-        made.append(&mut more)?;
+        append(&mut made, &mut more)?;
     }
     Ok(made)
 }
@@ -178,7 +179,7 @@ pub(crate) fn precedences(
     let mut made = Vec::new(alloc);
     for source in sources {
         let mut more = of_source(alloc, params, source, sinks, times, meter)?;
-        made.append(&mut more)?;
+        append(&mut made, &mut more)?;
     }
     Ok(made)
 }

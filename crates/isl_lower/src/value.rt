@@ -20,7 +20,7 @@ use isl_meter::{Cut, Meter};
 use isl_piece::Piece;
 use isl_space::{Name, Params, SpaceFault};
 use isl_tree::tree::{Literal, PieceTree};
-use isl_union::Value;
+use isl_union::{Value, append};
 use std::alloc::Global;
 
 // What the pieces give, in order.
@@ -42,8 +42,8 @@ fn lower_pieces(
 {
     let mut made = Vec::with_capacity(alloc, pieces.len())?;
     for piece in pieces {
-        let mut more = lower_piece(alloc, names, params, piece, meter)?;
-        made.append(&mut more)?;
+        let more = lower_piece(alloc, names, params, piece, meter)?;
+        append(&mut made, more)?;
     }
     Ok(made)
 }

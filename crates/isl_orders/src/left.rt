@@ -6,6 +6,7 @@ ghost use Rattle.isl_piece.specs.System.{IsSystemWithin, free_columns};
 ghost use Rattle.isl_orders.specs.Left.{AreLeftWith};
 
 use isl_blocks::without_last;
+use isl_difference::append;
 use isl_meter::{Cut, Meter};
 use isl_piece::{System, meet};
 use std::alloc::Global;
@@ -57,7 +58,7 @@ pub(crate) fn left_with_any(
     let mut left = Vec::new(alloc);
     for case in cases {
         let mut more = left_with(alloc, system, case, kept, count, meter)?;
-        left.append(&mut more)?;
+        append(&mut left, &mut more)?;
     }
     Ok(left)
 }

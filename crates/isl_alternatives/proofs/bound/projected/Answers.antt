@@ -79,7 +79,7 @@ loop-system-preserved c =
     let inside : i < length systems = grind (arith, common_steps) in
     let same : c.as_slice-in-loop-system.result.now ≡ range_with_len n m = grind (arith, common_steps) in
     let over : IsOver h inner s = over_at h inner systems i s (over_after g h inner systems c.loop-system.invariant.charged c.requires.over) inside c.system-item.is in
-    projected_more g h c.eliminate_all.new.meter outer inner systems i s c.loop-system.found.items more c.append.new.self.items inside c.system-item.is
+    projected_more g h c.eliminate_all.new.meter outer inner systems i s c.loop-system.found.items more c.append.new.systems.items inside c.system-item.is
     c.in_ok-append.ensures.items c.loop-system.invariant
     (projected_one h c.eliminate_all.new.meter outer inner s c.as_slice-in-loop-system.result.now more over same c.requires.columns
     (projection_reduced h s c.in-Some.few c.as_slice-in-loop-system.result.now more reduced c.in_ok-more.ensures.projection)

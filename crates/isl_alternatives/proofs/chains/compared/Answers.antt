@@ -23,5 +23,5 @@ returns c =
     let found : c.as_slice-3.result.now ≡ c.in_ok-below.below.items = grind (arith, common_steps) in
     let two : splits k.compare k.left.now k.right.now ≡ true = grind (arith, common_steps) in
     split_either c.args.meter.now c.with_row-2.new.meter c.begun.new.meter c.with_row-3.new.meter c.args.scope.now systems c.in_ok-below.below.items
-    c.in_ok-rest.rest.items c.in_ok-above.above.items c.append.new.self.items k.left.now k.right.now k.compare two (rw base at c.in_ok-below.ensures)
+    c.in_ok-rest.rest.items c.in_ok-above.above.items c.append.new.systems.items k.left.now k.right.now k.compare two (rw base at c.in_ok-below.ensures)
     c.in_ok-rest.ensures.2 (rw (whole, found) at c.in_ok-rest.ensures.1) rest c.in_ok-above.ensures c.in_ok-append.ensures.items

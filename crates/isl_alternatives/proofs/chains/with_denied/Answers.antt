@@ -38,7 +38,7 @@ loop-comparison-preserved c =
     let more = rw turned at c.in_ok-more.ensures in (
       denied_more g l.meter h end c.args.scope.now (ahead_of c.args.ahead) (ahead_of l.ahead) (ahead_of c.next.new.self)
           (k.left.now, k.compare, k.right.now) c.args.systems.now l.found.items c.in_ok-base.base.items c.in_ok-more.more.items
-          c.append.new.self.items next l.invariant.0 paid (rw found at c.in_ok-base.ensures.1) c.in_ok-base.ensures.0 more
+          c.append.new.systems.items next l.invariant.0 paid (rw found at c.in_ok-base.ensures.1) c.in_ok-base.ensures.0 more
           c.in_ok-append.ensures.items,
       IsCharged_trans g h end (IsCharged_trans g l.meter h l.invariant.1 paid) more.charged,
     )

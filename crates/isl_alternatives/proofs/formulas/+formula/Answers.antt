@@ -128,9 +128,8 @@ restricted-selected-requires-clause-over t c =
 
 pub restricted-selected-requires-clause-others_over : goal.restricted-selected-requires-clause-others_over
 restricted-selected-requires-clause-others_over t c =
-    let whole : c.as_slice-in-Exists-2.result.now ≡ c.in_ok-found-in-Exists.found.items = grind (arith, common_steps) in
     let w = c.in_ok-found-in-Exists.ensures in
-    rw whole (over_after c.args.meter.now c.exists.new.meter c.args.scope.now c.in_ok-found-in-Exists.found.items w.charged w.over)
+    over_after c.args.meter.now c.exists.new.meter c.args.scope.now c.in_ok-found-in-Exists.found.items w.charged w.over
 
 pub restricted-with_chain-requires-clause-known : goal.restricted-with_chain-requires-clause-known
 restricted-with_chain-requires-clause-known t c =
@@ -190,10 +189,9 @@ pub restricted-returns-in_ok-new-in-Exists : goal.restricted-returns-in_ok-new-i
 restricted-returns-in_ok-new-in-Exists t c =
     let is : c.args.formula.now ≡ Exists c.as_slice-in-Exists.result.now c.get-in-Exists.result.now = grind (arith, common_steps) in
     let whole : c.as_slice-all.result.now ≡ c.args.systems.items = grind (arith, common_steps) in
-    let found : c.as_slice-in-Exists-2.result.now ≡ c.in_ok-found-in-Exists.found.items = grind (arith, common_steps) in
     at_bound c.args.meter.now c.selected.new.meter c.args.scope.now c.args.systems.items c.args.polarity.holds c.args.formula.now
     c.in_ok-new-in-Exists.new.items c.exists.new.meter c.as_slice-in-Exists.result.now c.get-in-Exists.result.now c.in_ok-found-in-Exists.found.items is
-    c.in_ok-found-in-Exists.ensures (rw (whole, found) at c.in_ok-new-in-Exists.ensures)
+    c.in_ok-found-in-Exists.ensures (rw whole at c.in_ok-new-in-Exists.ensures)
 
 -- ---- what is bound
 pub exists-restricted-requires : goal.exists-restricted-requires

@@ -41,7 +41,7 @@ loop-precedence-preserved c =
           c.precedence-item.is (IsSound h params) (IsPlainPrecedence item) (λ at. Shows params at.0 at.1 item)
           (λ p is. sound_before g h params p so_far.charged is)
           (λ all. subst IsPlainPrecedence (sym c.precedence-item.is) (all i item low)) (λ at. ((λ x. x), (λ x. x)))
-          c.loop-precedence.made.items c.in_ok-more.more.items c.append.new.self.items c.in_ok-append.ensures.items so_far.made
+          c.loop-precedence.made.items c.in_ok-more.more.items c.append.new.pieces.items c.in_ok-append.ensures so_far.made
           c.in_ok-more.ensures.made;
       charged = IsCharged_trans g h c.pieces_of.new.meter so_far.charged c.in_ok-more.ensures.meter;
     }

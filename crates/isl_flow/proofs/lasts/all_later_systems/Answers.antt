@@ -36,7 +36,7 @@ loop-later-preserved c g all =
     (λ o k. LiesIn f o × HasLater params o k) items i item low c.later-item.is (IsOver g (widths_for params f)) (IsPlainLater item)
     (λ o. LiesIn f o × HasLater params o item) (λ p is. is)
     (λ plain. subst IsPlainLater (sym c.later-item.is) (plain i item low)) (λ o. ((λ x. x), (λ x. x)))
-    c.loop-later.made.items c.in_ok-more.more.items c.append.new.self.items c.in_ok-append.ensures.items
+    c.loop-later.made.items c.in_ok-more.more.items c.append.new.systems.items c.in_ok-append.ensures.items
     (c.loop-later.invariant g all)
     (c.in_ok-more.ensures g (subst (IsLater g params) (sym c.later-item.is) (all i item low)))
 

@@ -43,7 +43,7 @@ loop-precedence-preserved c =
           items i item low c.precedence-item.is (IsLater h params) (IsPlainPrecedence item)
           (λ o. ComesLater params o item) (λ p is. later_before g h params p so_far.charged is)
           (λ all. subst IsPlainPrecedence (sym c.precedence-item.is) (all i item low)) (λ o. ((λ x. x), (λ x. x)))
-          c.loop-precedence.made.items c.in_ok-more.more.items c.append.new.self.items c.in_ok-append.ensures.items so_far.made
+          c.loop-precedence.made.items c.in_ok-more.more.items c.append_laters.new.laters.items c.in_ok-append_laters.ensures.items so_far.made
           c.in_ok-more.ensures.made;
       charged = IsCharged_trans g h c.laters_of.new.meter so_far.charged c.in_ok-more.ensures.meter;
     }

@@ -45,7 +45,7 @@ loop-other-preserved c =
           (λ point s. HoldsGiven one n point s) items i item low c.other-item.is (IsAcross h n) (IsPlainSystem one × IsPlainSystem item)
           (λ point. HoldsGiven one n point item) (λ s is. across_before g h n s so_far.charged is)
           (λ all. (all.0, subst IsPlainSystem (sym c.other-item.is) (all.1 i item low))) (λ point. ((λ x. x), (λ x. x)))
-          c.loop-other.made.items c.in_ok-more.more.items c.append.new.self.items c.in_ok-append.ensures.items so_far.made
+          c.loop-other.made.items c.in_ok-more.more.items c.append.new.systems.items c.in_ok-append.ensures.items so_far.made
           c.in_ok-more.ensures.made;
       charged = IsCharged_trans g h c.given.new.meter so_far.charged c.in_ok-more.ensures.meter;
     }

@@ -44,7 +44,7 @@ loop-system-preserved c =
           (λ point s. HoldsLongBefore kept count point s) items i item low c.system-item.is (IsLive h kept) (IsPlainSystem item)
           (λ point. HoldsLongBefore kept count point item) (λ s is. live_kept g h kept s (sym (charged_bits g h so_far.charged)) is)
           (λ all. subst IsPlainSystem (sym c.system-item.is) (all i item low)) (λ point. ((λ x. x), (λ x. x)))
-          c.loop-system.made.items c.in_ok-more.more.items c.append.new.self.items c.in_ok-append.ensures.items so_far.made
+          c.loop-system.made.items c.in_ok-more.more.items c.append.new.systems.items c.in_ok-append.ensures.items so_far.made
           (live_without_made h item kept count c.in_ok-more.more.items c.in_ok-more.ensures.left);
       charged = IsCharged_trans g h c.live_without.new.meter so_far.charged c.in_ok-more.ensures.meter;
     }

@@ -64,7 +64,7 @@ loop-start-preserved c =
           accessed_before g h params r so_far.charged is)
           (λ all. (all.0, (item_has IsPlain items i item low c.start-item.is all.1, all.1))) (λ o. ((λ x. x), (λ x. x)))
           c.loop-start.made.items
-          c.in_ok-more.more.items c.append.new.self.items c.in_ok-append.ensures.items so_far.made c.in_ok-more.ensures.made;
+          c.in_ok-more.more.items c.append.new.precedences.items c.in_ok-append.ensures.items so_far.made c.in_ok-more.ensures.made;
       charged = IsCharged_trans g h c.from_start.new.meter so_far.charged c.in_ok-more.ensures.meter;
     }
 

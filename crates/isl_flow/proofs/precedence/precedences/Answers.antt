@@ -65,7 +65,7 @@ loop-source-preserved c =
           so_far.charged is)
           (λ all. ((item_has IsPlain items i item low c.source-item.is all.0.0, all.0.1), all.1)) (λ o. ((λ x. x), (λ x. x)))
           c.loop-source.made.items
-          c.in_ok-more.more.items c.append.new.self.items c.in_ok-append.ensures.items so_far.made c.in_ok-more.ensures.made;
+          c.in_ok-more.more.items c.append.new.precedences.items c.in_ok-append.ensures.items so_far.made c.in_ok-more.ensures.made;
       charged = IsCharged_trans g h c.of_source.new.meter so_far.charged c.in_ok-more.ensures.meter;
     }
 

@@ -12,7 +12,7 @@ loop-piece-preserved c =
     let low : l.piece-index < length pieces = grind (arith, common_steps) in
     record {
       made = made_more g l.meter c.lower_piece.new.meter c.args.names.now pieces l.piece-index c.piece-item.result l.made.items
-          c.in_ok-more.more.items c.append.new.self.items low c.piece-item.is l.invariant.charged c.in_ok-append.ensures.items
+          c.in_ok-more.more.items c.append.new.pieces.items low c.piece-item.is l.invariant.charged c.in_ok-append.ensures
           l.invariant.made c.in_ok-more.ensures.made;
       charged = IsCharged_trans g l.meter c.lower_piece.new.meter l.invariant.charged c.in_ok-more.ensures.meter;
     }

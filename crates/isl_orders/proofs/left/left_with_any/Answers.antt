@@ -28,7 +28,7 @@ loop-case-preserved c =
     let so_far = c.loop-case.invariant in
     record {
       left = left_more g h c.args.system.now c.args.cases.now c.loop-case.case-index c.case-item.result c.args.kept c.args.count
-          c.loop-case.left.items c.in_ok-more.more.items c.append.new.self.items c.loop-case-test.true c.case-item.is so_far.charged
+          c.loop-case.left.items c.in_ok-more.more.items c.append.new.systems.items c.loop-case-test.true c.case-item.is so_far.charged
           so_far.left c.in_ok-more.ensures.left c.in_ok-append.ensures.items;
       charged = IsCharged_trans g h c.left_with.new.meter so_far.charged c.in_ok-more.ensures.meter;
     }
