@@ -77,6 +77,20 @@ def same_layouts(block):
     )
 
 
+def accesses(count):
+    """A map of so many pieces that overlap."""
+    return "M := { " + "; ".join(f"S[i] -> A[j] : {n} <= i <= {n + 1000} and i <= j <= i + {n}" for n in range(1, count + 1)) + " };"
+
+
+# Five literals of isl's own tests.
+TESTED = [
+    "{ [a, b] : a <= 1024 and b >= 0 and ((-31 - a + b <= 32*floor((-1 - a)/32) <= -33 + b and 32*floor((-1 - a)/32) <= -16 + b + 16*floor((-1 - a)/16))or (2 <= a <= 15 and b < a)) };",
+    "[p0, p1] -> { [] -> [] : exists (e0 = [(2p1)/3], e1, e2, e3 = [(3 - p1 + 3e0)/3], e4 = [(p1)/3], e5 = [(p1 + 3e4)/3]: 3e0 >= -2 + 2p1 and 3e0 >= p1 and 3e3 >= 1 - p1 + 3e0 and 3e0 <= 2p1 and 3e3 >= -2 + p1 and 3e3 <= -1 + p1 and p1 >= 3 and 3e5 >= -2 + 2p1 and 3e5 >= p1 and 3e5 <= -1 + p1 + 3e4 and 3e4 <= p1 and 3e4 >= -2 + p1 and e3 <= -1 + e0 and 3e4 >= 6 - p1 + 3e1 and 3e1 >= p1 and 3e5 >= -2 + p1 + 3e4 and 2e4 >= 3 - p1 + 2e1 and e4 <= e1 and 3e3 <= 2 - p1 + 3e0 and e5 >= 1 + e1 and 3e4 >= 6 - 2p1 + 3e1 and p0 >= 2 and p1 >= p0 and 3e2 >= p1 and 3e4 >= 6 - p1 + 3e2 and e2 <= e1 and e3 >= 1 and e4 <= e2) };",
+    "{ [i] : exists (e0 = [(255i)/256], e1 = [(127i + 65e0)/191], e2 = [(3i + 61e1)/65], e3 = [(52i + 12e2)/61], e4 = [(2i + e3)/3], e5 = [(4i + e3)/4], e6 = [(8i + e3)/12]: 3e4 = 2i + e3 and 4e5 = 4i + e3 and 12e6 = 8i + e3 and i <= 255 and 64e3 >= -45 + 67i and i >= 0 and 256e0 <= 255i and 256e0 >= -255 + 255i and 191e1 <= 127i + 65e0 and 191e1 >= -190 + 127i + 65e0 and 65e2 <= 3i + 61e1 and 65e2 >= -64 + 3i + 61e1 and 61e3 <= 52i + 12e2 and 61e3 >= -60 + 52i + 12e2) };",
+    "{ [a, b, c, d, e, f, g, h, i, j, k] : 3i >= 1073741823b - c - 1073741823e + f and c >= 0 and 3i >= -1 + 3221225466b + c + d - 3221225466e - f and 2e >= a - b and 3e <= 2a and 3k <= -a and f <= -1 + a and 3i <= 4 - a + 4b + 2c - e - 2f and 3k <= -a + c - f and 3h >= -2 + a and 3g >= -3 - a and 3k >= -2 - a and 3i >= -2 - a - 2c + 3e + 2f and 3h <= a + c - f and 3h >= a + 2147483646b + 2c - 2147483646e - 2f and 3g <= -1 - a and 3i <= 1 + c + d - f and a <= 1073741823 and f >= 1 - a + 1073741822b + c + d - 1073741822e and 3i >= 1 + 2b - 2c + e + 2f + 3g and 1073741822f <= 1073741822 - a + 1073741821b + 1073741822c +d - 1073741821e and 3j <= 3 - a + 3b and 3g <= -2 - 2b + c + d - e - f and 3j >= 1 - a + b + 2e and 3f >= -3 + a + 3221225462b + 3c + d - 3221225465e and 3i <= 4 - a + 4b - e and f <= 1073741822 + 1073741822b - 1073741822e and 3h <= a and f >= 0 and 2e <= 4 - a + 5b - d and 2e <= a - b + d and c <= -1 + a and 3i >= -2 - a + 3e and 1073741822e <= 1073741823 - a + 1073741822b + c and 3g >= -4 + 3221225464b + 3c + d - 3221225467e - 3f and 3i >= -1 + 3221225466b + 3c + d - 3221225466e - 3f and 1073741823e >= 1 + 1073741823b - d and 3i >= 1073741823b + c - 1073741823e - f and 3i >= 1 + 2b + e + 3g };",
+    "[a, b, c, d, e] -> { [] : exists (e0: 2d = b and a <= 124 and b <= 2046 and b >= 0 and b <= 60 + 64a and 2e >= b + 2c and 2e >= b and 2e <= 1 + b and 2e <= 1 + b + 2c and 32768e0 >= -124 + a and 2097152e0 <= 60 + 64a - b) };",
+]
+
 PRIMES = [2, 3, 5, 7, 11, 13, 17]
 ROWS = {
     "four bound names, 12 rows (1)": exists4(4),
@@ -102,8 +116,11 @@ ROWS = {
     "outside an interval at 16 coordinates": outside_boxes(16),
     "three times 80 slabs": slabs(3, 80),
     "1000 times 1000 bounds": "{ [i, j] : exists (a : " + " and ".join(f"a >= i + {n}j and a <= {n}i + j + {n}" for n in range(1000)) + ") };",
+    "a bound name, coefficients of a million": "[a, b, c, d, e] -> { [] : exists (k : 2d = b and a <= 124 and 0 <= b <= 2046 and b <= 60 + 64a and 2e >= b + 2c and 2e >= b and 2e <= 1 + b and 2e <= 1 + b + 2c and 1000000k >= a - 124 and 64000000k <= 60 + 64a - b) };",
+    "300 times 300 accesses, each before each": accesses(300) + "any M before M under { S[i] -> [i] };",
     "20 lines through a point": "{ [i, j] : " + " and ".join(f"i != {n}j" for n in range(20)) + " };",
     "remainder of 1000": "{ [i] : i mod 1000 <= 600 };",
+    **{f"a literal of isl's tests ({n + 1})": literal for n, literal in enumerate(TESTED)},
     "remainder of 1000, asked": "{ [i] : 0 <= i <= 3 } <= [n] -> { [i] : exists (a = [i/10] : 0 <= i <= n and i - 10a <= 6) };",
 }
 
