@@ -7,7 +7,7 @@ use std::alloc::AllocError;
 
 // How many bytes the rows of all lists take at most, as the last one tells. More count as want of memory, so that memory is bounded as time
 // is.
-const MOST_BYTES: usize = 100_663_296;
+const MOST_BYTES: usize = 67_108_864;
 
 // A row takes so many bytes, and so many coefficients lie in it; where there are more, each takes so many beside it.
 const ROW_BYTES: usize = 208;

@@ -150,6 +150,12 @@ impl ColumnUse {
         pairs.saturating_sub(bounds)
     }
 
+    // Whether no row has the column.
+    fn is_unused(self) -> bool {
+        let is_unbounded = self.lowers.count == 0 && self.uppers.count == 0;
+        is_unbounded && !self.has_congruence && self.equality.is_none()
+    }
+
     fn cost(self, rows: &[Row]) -> Cost {
         if let Some(magnitude) = self.equality {
             return if magnitude == 1 {
@@ -217,7 +223,7 @@ pub fn cheapest(rows: &[Row], cols: &[usize]) -> usize
     best
 }
 
-/// A column of so many, which is likely to cost the least.
+/// A column of so many, which is likely to cost the least of those that some row has: once all of these are gone, no row is left.
 pub fn any_column(rows: &[Row], columns: usize) -> usize
     requires { 0 < columns }
     ensures { result < columns }
@@ -225,7 +231,11 @@ pub fn any_column(rows: &[Row], columns: usize) -> usize
     let mut best = 0;
     let mut least = None;
     for col in 0..columns {
-        let cost = ColumnUse::of(rows, col).cost(rows);
+        let column = ColumnUse::of(rows, col);
+        if column.is_unused() {
+            continue;
+        }
+        let cost = column.cost(rows);
         if matches!(cost, Cost::Unit) {
             return col;
         }
