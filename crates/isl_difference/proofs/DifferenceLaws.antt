@@ -1,10 +1,10 @@
 -- One system without others.
 use Rattle.std.proofs.Common.{◌≡◌, ◌≢◌, ◌↔◌, ◌⊎◌, inl, inr, refl, sym, ap, ◌∙◌, subst, arith, ℕ, zero, suc, ◌+◌, ◌*◌, ◌<◌, ◌≤◌, ℤ, pos, List, [], ◌∷◌}
-use Rattle.std.proofs.Common.{◌++◌, append-nil, length, length-append, get_or, take, Bool, false}
+use Rattle.std.proofs.Common.{◌++◌, append-nil, append_assoc, length, length-append, get_or, take, Bool, false}
 use Rattle.std.specs.List.{All, Any, AllPairs}
 use Rattle.std.specs.Prelude.{IfOk, IsTrue, MatchResult, Result, Ok, Err}
 use Rattle.std.proofs.lemmas.Bool.{false≢true}
-use Rattle.std.proofs.lemmas.List.{take_more, take_all}
+use Rattle.std.proofs.lemmas.List.{get_or_at, take_all, take_at, take_more}
 use Rattle.std.proofs.lemmas.List.Elements.{All-nil, All-cons, All-append, All-take}
 use Rattle.isl_math.proofs.ListLaws.{All-parts, All-last, Any-parts, Any-left, Any-right, Any-one, Any-first, Any-none}
 use Rattle.isl_meter.specs.declared.Cut.{Cut}
@@ -34,7 +34,7 @@ use Rattle.isl_difference.proofs.PartitionLaws.{any_at, any_before, any_taken, p
 use Rattle.isl_difference.proofs.PartitionLaws.{partition_same, partition_each}
 use Rattle.isl_difference.proofs.SplitLaws.{system_kept, live_kept, charged_within}
 use Rattle.isl_difference.proofs.TameLaws.{AreBesideWithin, AreLeftWithin, beside_next, left_within_first, left_within_longer}
-use Rattle.isl_difference.proofs.TameLaws.{left_within_next, taken_few}
+use Rattle.isl_difference.proofs.TameLaws.{left_within_next, taken_few, taken_turn}
 
 -- ---- two systems over the same columns
 module _ (s other : System) (definitions : other.definitions ≡ s.definitions) where
@@ -306,26 +306,85 @@ beside_first g systems other left e = record {
   parts = rw e (partition_none (IsLeftOfAny g systems) (free_columns other) (HoldsBeside [] other) (λ point l h. Any-none (λ (t : System). HoldsSystem t point) h.0));
 }
 
-module _ (g h k : Gauge) (systems : List System) (other : System) (i : ℕ) (s : System) (left parts : List System) (disjoint : AllPairs (AreDisjoint (free_columns other)) systems)
-    (inside : i < length systems) (is : s ≡ get_or systems i s) (free : free_columns s ≡ free_columns other) (so_far : AreBeside g h systems (take i systems) other left) where
+-- ---- a list of systems of which some are done, and one is next
+module _ (systems done rest : List System) (s : System) (split : done ++ s ∷ rest ≡ systems) where
+  pub next_inside : length done < length systems
+  next_inside =
+      let long : length (done ++ s ∷ rest) ≡ length done + length (s ∷ rest) = length-append done (s ∷ rest) in
+      subst (λ (ts : List System). length done < length ts) split (omega arith)
+
+  next_is : s ≡ get_or systems (length done) s
+  next_is = subst (λ (ts : List System). s ≡ get_or ts (length done) s) split (sym (get_or_at done s rest s (length done) refl))
+
+  done_first : take (length done) systems ≡ done
+  done_first = subst (λ (ts : List System). take (length done) ts ≡ done) split (take_at done (s ∷ rest) (length done) refl)
+
+  pub next_split : (done ++ s ∷ []) ++ rest ≡ systems
+  next_split = append_assoc done (s ∷ []) rest ∙ split
+
+  pub next_of : (P : System → Type 0) → All P systems → P s
+  next_of P all = system_at P systems (length done) s all next_inside next_is
+
+  pub done_of : (P : System → Type 0) → All P systems → All P done
+  done_of P all = subst (All P) done_first (All-take P (length done) systems all)
+
+  pub next_within : (g h : Gauge) → IsCharged g h → All (IsSystemWithin g) systems → IsSystemWithin h s
+  next_within g h c all = charged_within g h s c (next_of (IsSystemWithin g) all)
+
+  pub next_turn : (t : ℕ) → length done * t + t ≤ length systems * t
+  next_turn t = subst (λ (ts : List System). length ts * t + t ≤ length systems * t) done_first
+      (taken_turn (length done) systems t next_inside)
+
+-- before the next system is asked, of which no more units are used than there is room for
+pub record IsNextTame (columns bits : ℕ) (g h : Gauge) (systems done : List System) (s : System) : Type 0 where
+  pub limit : h.bits ≡ 127
+  pub own : IsDifferenceSystem columns (bits + 1) s
+  pub units : h.units ≤ g.units + length done * (part_limit columns 1 * test_work columns)
+  pub room : length done * (part_limit columns 1 * test_work columns) + part_limit columns 1 * test_work columns
+      ≤ length systems * (part_limit columns 1 * test_work columns)
+
+pub next_tame_of : (g h : Gauge) (systems done rest : List System) (other s : System) (left : List System) → done ++ s ∷ rest ≡ systems
+    → AreBeside g h systems done other left → (columns bits : ℕ) → g.bits ≡ 127 → bits + 1 + columns ≤ 120
+    → All (IsDifferenceSystem columns (bits + 1)) systems → IsDifferenceSystem columns bits other
+    → IsNextTame columns bits g h systems done s
+next_tame_of g h systems done rest other s left split so_far c b limit room all o =
+    let D : System → Type 0 = IsDifferenceSystem c (b + 1) in
+    record {
+      limit = charged_bits g h so_far.charged ∙ limit;
+      own = next_of systems done rest s split D all;
+      units = (so_far.tame c b limit room (done_of systems done rest s split D all) o).units;
+      room = next_turn systems done rest s split (part_limit c 1 * test_work c);
+    }
+
+module _ (g h k : Gauge) (systems done rest : List System) (other s : System) (left parts : List System)
+    (disjoint : AllPairs (AreDisjoint (free_columns other)) systems) (split : done ++ s ∷ rest ≡ systems)
+    (free : free_columns s ≡ free_columns other) (so_far : AreBeside g h systems done other left) where
   abbrev n : ℕ
   n = free_columns other
 
-  more : take (i + 1) systems ≡ take i systems ++ s ∷ []
-  more = take_more systems i s inside ∙ ap (λ (t : System). take i systems ++ t ∷ []) (sym is)
+  inside : length done < length systems
+  inside = next_inside systems done rest s split
 
-  apart : (point : List ℤ) → length point ≡ n → HoldsAtAny (take i systems) point → ¬ HoldsSystem s point
-  apart point l a h = let x = any_before (λ (t : System). HoldsSystem t point) (AreDisjoint n) systems i s disjoint inside is a in x.2.apart point l x.1 h
+  is : s ≡ get_or systems (length done) s
+  is = next_is systems done rest s split
+
+  apart : (point : List ℤ) → length point ≡ n → HoldsAtAny done point → ¬ HoldsSystem s point
+  apart point l a h =
+      let P : System → Type 0 = λ t. HoldsSystem t point in
+      let before = subst (Any P) (sym (done_first systems done rest s split)) a in
+      let x = any_before P (AreDisjoint n) systems (length done) s disjoint inside is before in
+      x.2.apart point l x.1 h
 
   each_left : (t : System) → IsLeftOf h s t → IsLeftOfAny g systems t
-  each_left t p = any_at (λ (old : System). IsLeftOf g old t) systems i s inside (subst (λ (old : System). IsLeftOf g old t) is (left_kept g h s t (charged_bits g h so_far.charged) p))
+  each_left t p = any_at (λ (old : System). IsLeftOf g old t) systems (length done) s inside
+      (subst (λ (old : System). IsLeftOf g old t) is (left_kept g h s t (charged_bits g h so_far.charged) p))
 
-  all_counted : IsCharged h k → IsCounted h k s parts → length (left ++ parts) + g.units ≤ k.units + length (take i systems ++ s ∷ [])
+  all_counted : IsCharged h k → IsCounted h k s parts → length (left ++ parts) + g.units ≤ k.units + length (done ++ s ∷ [])
   all_counted c p =
       let before = so_far.counted in
       let few : length parts + h.units ≤ k.units + 1 = counted_few h k s parts c p in
       let all : length (left ++ parts) ≡ length left + length parts = length-append left parts in
-      let done : length (take i systems ++ s ∷ []) ≡ length (take i systems) + 1 = length-append (take i systems) (s ∷ []) in
+      let long : length (done ++ s ∷ []) ≡ length done + 1 = length-append done (s ∷ []) in
       omega arith
 
   -- what the system leaves without the other one
@@ -334,31 +393,38 @@ module _ (g h k : Gauge) (systems : List System) (other : System) (i : ℕ) (s :
       → IsDifferenceSystem columns bits other
       → (k.units ≤ h.units + part_limit columns 1 * test_work columns) × AreOfSize (left_size columns bits 1) parts
 
-  all_tame : SubtractedTame → (c b : ℕ) → g.bits ≡ 127 → b + 1 + c ≤ 120 → All (IsDifferenceSystem c (b + 1)) (take i systems ++ s ∷ [])
-      → IsDifferenceSystem c b other → AreBesideWithin c b (length (take i systems ++ s ∷ [])) g k (left ++ parts)
+  all_tame : SubtractedTame → (c b : ℕ) → g.bits ≡ 127 → b + 1 + c ≤ 120 → All (IsDifferenceSystem c (b + 1)) (done ++ s ∷ [])
+      → IsDifferenceSystem c b other → AreBesideWithin c b (length (done ++ s ∷ [])) g k (left ++ parts)
   all_tame tame c b limit room all o =
-      let both = All-last (IsDifferenceSystem c (b + 1)) (take i systems) s all in
+      let both = All-last (IsDifferenceSystem c (b + 1)) done s all in
       let before = so_far.tame c b limit room both.0 o in
       let after = tame c b (charged_bits g h so_far.charged ∙ limit) room both.1 o in
-      let long : length (take i systems ++ s ∷ []) ≡ length (take i systems) + 1 = length-append (take i systems) (s ∷ []) in
-      rw long (beside_next c b (length (take i systems)) g h k left parts before after.0 after.1)
+      let long : length (done ++ s ∷ []) ≡ length done + 1 = length-append done (s ∷ []) in
+      rw long (beside_next c b (length done) g h k left parts before after.0 after.1)
 
   pub beside_more : (newer : List System) → IsDifference h s (other ∷ []) parts → IsCounted h k s parts → IsCharged h k
       → (IsPlain s → IsPlain other → All IsPlain parts) → SubtractedTame → newer ≡ left ++ parts
-      → AreBeside g k systems (take (i + 1) systems) other newer
+      → AreBeside g k systems (done ++ s ∷ []) other newer
   beside_more newer d p c plain tame e = record {
     charged = IsCharged_trans g h k so_far.charged c;
-    counted = rw (e, more) (all_counted c p);
-    plain = rw (e, more) (λ all o.
-        let both = All-last IsPlain (take i systems) s all in
+    counted = rw e (all_counted c p);
+    plain = rw e (λ all o.
+        let both = All-last IsPlain done s all in
         All-append IsPlain left parts (so_far.plain both.0 o) (plain both.1 o));
-    tame = rw (e, more) (all_tame tame);
-    parts = rw (e, more) (partition_same (IsLeftOfAny g systems) n (λ point. HoldsBeside (take i systems) other point ⊎ IsOutside s (other ∷ []) point) (HoldsBeside (take i systems ++ s ∷ []) other) (left ++ parts)
+    tame = rw e (all_tame tame);
+    parts = rw e (partition_same (IsLeftOfAny g systems) n (λ point. HoldsBeside done other point ⊎ IsOutside s (other ∷ []) point)
+        (HoldsBeside (done ++ s ∷ []) other) (left ++ parts)
         (λ point l. let P : System → Type 0 = λ t. HoldsSystem t point in (
-          (λ x. elim x [ inl y ↦ (Any-left P (take i systems) (s ∷ []) y.0, y.1) | inr z ↦ (Any-right P (take i systems) (s ∷ []) (Any-first P s [] z.0), λ a. z.1 (Any-first P other [] a)) ]),
-          (λ x. elim (Any-parts P (take i systems) (s ∷ []) x.0) [ inl y ↦ inl (y, x.1) | inr z ↦ inr (Any-one P s z, λ a. x.1 (Any-one P other a)) ]),
+          (λ x. elim x [
+            | inl y ↦ (Any-left P done (s ∷ []) y.0, y.1)
+            | inr z ↦ (Any-right P done (s ∷ []) (Any-first P s [] z.0), λ a. z.1 (Any-first P other [] a))
+          ]),
+          (λ x. elim (Any-parts P done (s ∷ []) x.0) [
+            | inl y ↦ inl (y, x.1)
+            | inr z ↦ inr (Any-one P s z, λ a. x.1 (Any-one P other a))
+          ]),
         ))
-        (partition_append (IsLeftOfAny g systems) n (HoldsBeside (take i systems) other) (IsOutside s (other ∷ [])) left parts so_far.parts
+        (partition_append (IsLeftOfAny g systems) n (HoldsBeside done other) (IsOutside s (other ∷ [])) left parts so_far.parts
         (partition_each (IsLeftOf h s) (IsLeftOfAny g systems) n (IsOutside s (other ∷ [])) parts each_left
         (subst (λ m. IsPartition (IsLeftOf h s) m (IsOutside s (other ∷ [])) parts) free d))
         (λ point l x y. apart point l x.0 y.0)));

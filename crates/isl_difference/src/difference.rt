@@ -14,7 +14,7 @@ ghost use Rattle.isl_difference.specs.Tame.{part_limit, test_work, left_size, le
 ghost use Rattle.isl_difference.specs.Told.{AreTold, IsTold};
 
 use crate::bounds::{are_apart, are_implied};
-use crate::lists::append;
+use crate::lists::{append, push};
 use crate::live::is_nowhere;
 use crate::split::split;
 use isl_meter::{Cut, Meter};
@@ -234,35 +234,38 @@ fn whole(alloc: Global, system: &System) -> Result<Vec<System>, Cut>
     Ok(left)
 }
 
-// What is left of disjoint systems without the other one.
+// What is left of disjoint systems without the other one. A system that has no point of it is moved, and not copied.
 #[tactic(auto, using(std::proofs::lemmas::Grind::common_steps, crate::proofs::DifferenceLaws::beside_steps))]
 fn all_without(
     alloc: Global,
-    systems: &[System],
+    systems: Vec<System>,
     other: &System,
     meter: &mut Meter,
 ) -> Result<Vec<System>, Cut>
-    requires within { All (IsSystemWithin meter.old) systems.now }
+    requires within { All (IsSystemWithin meter.old) systems.items }
     requires other_within { IsSystemWithin meter.old other.now }
-    requires columns { All (λ s. free_columns s ≡ free_columns other.now) systems.now }
-    requires disjoint { AllPairs (AreDisjoint (free_columns other.now)) systems.now }
+    requires columns { All (λ s. free_columns s ≡ free_columns other.now) systems.items }
+    requires disjoint { AllPairs (AreDisjoint (free_columns other.now)) systems.items }
     ensures exact { MatchResult result
-        (λ left. IsPartition (IsLeftOfAny meter.old systems.now) (free_columns other.now) (HoldsBeside systems.now other.now) left.items
+        (λ left. IsPartition (IsLeftOfAny meter.old systems.items) (free_columns other.now) (HoldsBeside systems.items other.now) left.items
         × IsCharged meter.old meter.new)
         (IsCutBy meter.old meter.new) }
-    ensures definitions { All (λ s. s.definitions ≡ []) systems.now → other.now.definitions ≡ []
+    ensures definitions { All (λ s. s.definitions ≡ []) systems.items → other.now.definitions ≡ []
         → IfOk result (λ left. All (λ s. s.definitions ≡ []) left.items) }
-    ensures counted { IfOk result (λ left. length left.items + meter.old.units ≤ meter.new.units + length systems.now) }
+    ensures counted { IfOk result (λ left. length left.items + meter.old.units ≤ meter.new.units + length systems.items) }
     ensures tame { (columns bits : ℕ) → meter.old.bits ≡ 127 → bits + 1 + columns ≤ 120
-        → All (IsDifferenceSystem columns (bits + 1)) systems.now
+        → All (IsDifferenceSystem columns (bits + 1)) systems.items
         → IsDifferenceSystem columns bits other.now
-        → IsTame (length systems.now * (part_limit columns 1 * test_work columns)) meter.old meter.new
-        (λ left. AreOfSize (record { pieces = length systems.now * part_limit columns 1; columns = columns; bits = bits + 1 })
+        → IsTame (length systems.items * (part_limit columns 1 * test_work columns)) meter.old meter.new
+        (λ left. AreOfSize (record { pieces = length systems.items * part_limit columns 1; columns = columns; bits = bits + 1 })
         left.items) result }
 {
     let mut left = Vec::new(alloc);
     for system in systems {
-        let mut parts = subtract(alloc, system, other, meter)?;
+        let Some(mut parts) = parts_outside(alloc, &system, other, meter)? else {
+            push(&mut left, system)?;
+            continue;
+        };
         append(&mut left, &mut parts)?;
     }
     Ok(left)
@@ -299,7 +302,7 @@ pub fn outside(
         if left.is_empty() {
             return Ok(left);
         }
-        left = all_without(alloc, &left, other, meter)?;
+        left = all_without(alloc, left, other, meter)?;
     }
     Ok(left)
 }

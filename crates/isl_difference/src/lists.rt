@@ -1,6 +1,6 @@
 //! Lists of systems.
 
-ghost use Rattle.std.specs.Prelude.{◌≡◌, ◌++◌, OnOk};
+ghost use Rattle.std.specs.Prelude.{◌≡◌, ◌++◌, ◌∷◌, [], OnOk};
 
 use isl_piece::System;
 use std::alloc::AllocError;
@@ -26,4 +26,19 @@ pub fn append(systems: &mut Vec<System>, more: &mut Vec<System>) -> Result<(), A
         return Err(AllocError);
     }
     systems.append(more)
+}
+
+/// Puts the system itself behind these.
+///
+/// # Errors
+///
+/// `AllocError` where memory ends, or they are too many together.
+pub(crate) fn push(systems: &mut Vec<System>, system: System) -> Result<(), AllocError>
+    ensures items { OnOk result (systems.new.items ≡ systems.old.items ++ system ∷ []) }
+{
+    if are_too_many(systems.len().saturating_add(1), &system) {
+        return Err(AllocError);
+    }
+    systems.push(system)?;
+    Ok(())
 }

@@ -14,6 +14,7 @@ ghost use Rattle.isl_difference.specs.Split.{AreExclusive, ArePaidBy, and_rows, 
 ghost use Rattle.isl_difference.specs.Tame.{HasDifferenceRows, test_work};
 
 use crate::bounds::is_implied;
+use crate::lists::append;
 use crate::live::push_live;
 use isl_meter::{Cut, Meter};
 use isl_piece::{Row, Rows, System, negate};
@@ -112,7 +113,7 @@ pub(crate) fn split(
             continue;
         }
         let mut new = failing(alloc, &rest, row, meter)?;
-        parts.append(&mut new)?;
+        append(&mut parts, &mut new)?;
         rest.rows.push(row.copy(alloc)?)?;
     }
     Ok(parts)

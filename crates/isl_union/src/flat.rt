@@ -10,7 +10,7 @@ ghost use Rattle.isl_union.specs.KeptValue.{Has, HasNoDefinitions, IsKeptValue};
 ghost use Rattle.isl_union.specs.Numbers.{IsWithinLimit};
 
 use crate::Value;
-use crate::pieces::live_pieces_in;
+use crate::pieces::{append, live_pieces_in};
 use isl_elim::flatten;
 use isl_meter::{Cut, Meter};
 use std::alloc::Global;
@@ -47,8 +47,8 @@ impl Value {
                 continue;
             }
             let systems = flatten(alloc, system, meter)?;
-            let mut more = live_pieces_in(alloc, params, piece.space(), systems, meter)?;
-            kept.append(&mut more)?;
+            let more = live_pieces_in(alloc, params, piece.space(), systems, meter)?;
+            append(&mut kept, more)?;
         }
         Ok(Value::from_normal(params.copy(alloc)?, kept))
     }

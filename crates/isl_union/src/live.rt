@@ -24,6 +24,7 @@ ghost use Rattle.isl_union.specs.Piece.{kept_piece, piece_of, IsPieceOf, IsPiece
 ghost use Rattle.isl_union.specs.Tame.{size_of, systems_of, IsOfSize};
 
 use crate::Value;
+use isl_difference::are_too_many;
 use isl_elim::is_normal_empty;
 use isl_meter::{Cut, Meter};
 use isl_piece::{Piece, System, normalise};
@@ -108,11 +109,14 @@ pub fn settled_piece(
 ///
 /// # Errors
 ///
-/// Where memory ends.
+/// Where memory ends, or they are too many together.
 pub fn push_found(kept: &mut Vec<Piece>, found: Option<Piece>) -> Result<(), AllocError>
     ensures { OnOk result (kept.new.items ≡ kept.old.items ++ option_to_list found) }
 {
     if let Some(piece) = found {
+        if are_too_many(kept.len(), piece.system()) {
+            return Err(AllocError);
+        }
         kept.push(piece)?;
     }
     Ok(())

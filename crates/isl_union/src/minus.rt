@@ -21,7 +21,7 @@ ghost use Rattle.isl_union.specs.Piece.{kept_piece, IsPieceOf};
 ghost use Rattle.isl_union.specs.Tame.{minus_size, systems_of, AreOfSizes, IsOfSize, IsTameAnswer};
 
 use crate::pair::aligned_pair;
-use crate::pieces::pieces_in;
+use crate::pieces::{append, pieces_in};
 use crate::{OpFault, Value};
 use isl_difference::outside;
 use isl_index::PieceIndex;
@@ -109,8 +109,8 @@ fn pieces_without(
 {
     let mut left = Vec::new(alloc);
     for piece in pieces {
-        let mut parts = piece_without(alloc, params, piece, others, meter)?;
-        left.append(&mut parts)?;
+        let parts = piece_without(alloc, params, piece, others, meter)?;
+        append(&mut left, parts)?;
     }
     Ok(left)
 }

@@ -18,7 +18,7 @@ ghost use Rattle.isl_union.specs.Numbers.{IsWithinLimit};
 ghost use Rattle.isl_union.specs.Project.{IsNarrower, IsProjected};
 ghost use Rattle.isl_union.specs.Tame.{size_of, IsOfSize, IsTameAnswer};
 
-use crate::pieces::live_pieces_in;
+use crate::pieces::{append, live_pieces_in};
 use crate::{OpFault, Value};
 use isl_elim::{columns_between, eliminate_all};
 use isl_meter::{Cut, Meter};
@@ -93,8 +93,8 @@ impl Value {
                 continue;
             }
             let systems = without_columns(alloc, piece.system(), first, count, meter)?;
-            let mut more = live_pieces_in(alloc, params, to, systems, meter)?;
-            kept.append(&mut more)?;
+            let more = live_pieces_in(alloc, params, to, systems, meter)?;
+            append(&mut kept, more)?;
         }
         Ok(Value::from_normal(params.copy(alloc)?, kept))
     }

@@ -20,10 +20,8 @@ all_without-requires-clause-disjoint c =
     let low : i < length refs = grind (arith, common_steps) in
     let inside : i < length others = rw (length-map refs (λ o. o.now)) low in
     let is = mapped_at (λ o. o.now) refs i c.other-item.result low c.other-item.is in
-    let same : c.deref.result.now ≡ c.loop-other.left.items = grind (arith, common_steps) in
-    rw same
-    (left_disjoint c.args.meter.now c.loop-other.meter c.args.system.now others i c.other-item.result.now c.loop-other.left.items inside
-    is c.requires.columns c.loop-other.invariant)
+    left_disjoint c.args.meter.now c.loop-other.meter c.args.system.now others i c.other-item.result.now c.loop-other.left.items inside
+    is c.requires.columns c.loop-other.invariant
 
 pub all_without-requires-clause-columns : goal.all_without-requires-clause-columns
 all_without-requires-clause-columns c =
@@ -33,10 +31,8 @@ all_without-requires-clause-columns c =
     let low : i < length refs = grind (arith, common_steps) in
     let inside : i < length others = rw (length-map refs (λ o. o.now)) low in
     let is = mapped_at (λ o. o.now) refs i c.other-item.result low c.other-item.is in
-    let same : c.deref.result.now ≡ c.loop-other.left.items = grind (arith, common_steps) in
-    rw same
-    (left_columns c.args.meter.now c.loop-other.meter c.args.system.now others i c.other-item.result.now c.loop-other.left.items inside
-    is c.requires.columns c.loop-other.invariant)
+    left_columns c.args.meter.now c.loop-other.meter c.args.system.now others i c.other-item.result.now c.loop-other.left.items inside
+    is c.requires.columns c.loop-other.invariant
 
 pub returns-then-is_empty-clause-exact : goal.returns-then-is_empty-clause-exact
 returns-then-is_empty-clause-exact c =
@@ -56,10 +52,8 @@ all_without-requires-clause-within c =
     let low : i < length refs = grind (arith, common_steps) in
     let inside : i < length others = rw (length-map refs (λ o. o.now)) low in
     let is = mapped_at (λ o. o.now) refs i c.other-item.result low c.other-item.is in
-    let same : c.deref.result.now ≡ c.loop-other.left.items = grind (arith, common_steps) in
-    rw same
-    (left_within c.args.meter.now c.loop-other.meter c.args.system.now others i c.other-item.result.now c.loop-other.left.items inside
-    is c.requires.columns c.loop-other.invariant)
+    left_within c.args.meter.now c.loop-other.meter c.args.system.now others i c.other-item.result.now c.loop-other.left.items inside
+    is c.requires.columns c.loop-other.invariant
 
 pub all_without-requires-clause-other_within : goal.all_without-requires-clause-other_within
 all_without-requires-clause-other_within c =
@@ -80,14 +74,13 @@ loop-other-preserved c =
     let low : i < length refs = grind (arith, common_steps) in
     let inside : i < length others = rw (length-map refs (λ o. o.now)) low in
     let is = mapped_at (λ o. o.now) refs i c.other-item.result low c.other-item.is in
-    let same : c.deref.result.now ≡ c.loop-other.left.items = grind (arith, common_steps) in
-    let exact = rw same at c.in_ok-left-2.ensures.exact in
-    let counted = rw same at c.in_ok-left-2.ensures.counted in
+    let exact = c.in_ok-left-2.ensures.exact in
+    let counted = c.in_ok-left-2.ensures.counted in
     left_more c.args.meter.now c.loop-other.meter c.args.system.now others i c.other-item.result.now c.loop-other.left.items inside
     is c.requires.columns c.loop-other.invariant c.all_without.new.meter c.in_ok-left-2.left.items exact.1 counted
-    (rw same at c.in_ok-left-2.ensures.definitions)
+    c.in_ok-left-2.ensures.definitions
     (λ columns bits limit room all o.
-    let made = (rw same at c.in_ok-left-2.ensures.tame) columns bits limit room all o in
+    let made = c.in_ok-left-2.ensures.tame columns bits limit room all o in
     record { units = made.within.units; size = made.answer })
     exact.0
 
@@ -133,9 +126,8 @@ returns-in_err-left-2-clause-tame c = λ columns bits limit room d all.
     let before = length (take i others) in
     let fewer : before < length refs = (let t = length-take-le i others (omega arith) in omega arith) in
     let so = c.loop-other.invariant.tame columns bits limit room d (All-take (IsDifferenceSystem columns bits) i others all) in
-    let same : c.deref.result.now ≡ left = grind (arith, common_steps) in
     let limit_then = charged_bits g h c.loop-other.invariant.charged ∙ limit in
-    let cut = (rw same at c.in_err-left-2.ensures.tame) columns bits limit_then room so.size.each other in
+    let cut = c.in_err-left-2.ensures.tame columns bits limit_then room so.size.each other in
     let error = err_from_is_err_and c.from_residual-in_err-left-2.result c.from_residual-in_err-left-2.ensures.1 in
     rw (error.1, error.2) (tame_cut (left_work columns before) (length left * (part_limit columns 1 * test_work columns))
     (left_work columns (length refs)) g h c.all_without.new.meter _ _ c.in_err-left-2.field-0.0 c.loop-other.invariant.charged so.units

@@ -35,11 +35,11 @@ loop-row-preserved c =
     let inside : i < length rows = grind (arith, common_steps) in
     let is : r ≡ get_or rows i r = grind (arith, common_steps) in
     let more : c.push.new.self ≡ rest.rows ++ r ∷ [] = grind (arith, common_steps) in
-    let all : c.append.new.self.items ≡ parts ++ new = c.in_ok-append.ensures.items in
+    let all : c.append.new.systems.items ≡ parts ++ new = c.in_ok-append.ensures.items in
     let next : System = record { columns = rest.columns; definitions = rest.definitions; rows = c.push.new.self } in
     let same : next ≡ and_rows rest (r ∷ []) = rw more refl in
     more_at c.args.meter.now c.loop-row.meter c.args.system.now rows i r rest parts inside is c.loop-row.invariant c.failing.new.meter new next
-    c.append.new.self.items c.requires.formed c.requires.rows_within found.1 c.in_ok-new.ensures.paid
+    c.append.new.systems.items c.requires.formed c.requires.rows_within found.1 c.in_ok-new.ensures.paid
     c.in_ok-new.ensures.definitions found.0
     (λ columns bits limit room d row.
     let made = c.in_ok-new.ensures.tame columns bits limit room d row in

@@ -58,12 +58,12 @@ loop-piece-preserved c =
     let so_far = c.loop-piece.invariant in
     record {
       left = left_step g h c.args.params.now pieces piece i others c.loop-piece.left.items c.in_ok-parts.parts.items
-          c.append.new.self.items so_far.charged low c.piece-item.is so_far.left c.in_ok-parts.ensures.exact
-          c.in_ok-append.ensures.items;
+          c.append.new.pieces.items so_far.charged low c.piece-item.is so_far.left c.in_ok-parts.ensures.exact
+          c.in_ok-append.ensures;
       definitions = λ own none.
           let P : PieceView → Type 0 = λ p. p.system.definitions ≡ [] in
           let here = item_has P pieces i piece low c.piece-item.is own in
-          subst (All P) (sym c.in_ok-append.ensures.items)
+          subst (All P) (sym c.in_ok-append.ensures)
           (All-append P c.loop-piece.left.items c.in_ok-parts.parts.items (so_far.definitions own none)
           (c.in_ok-parts.ensures.definitions here none));
       tame = λ columns bits limit room own more.
@@ -76,12 +76,12 @@ loop-piece-preserved c =
           let turns = turn_more i (left_work columns n) in (
             omega (arith, first, second, turns),
             sizes_append (i * part_limit columns n) (part_limit columns n) ((i + 1) * part_limit columns n) columns (bits + 1)
-                c.loop-piece.left.items c.in_ok-parts.parts.items c.append.new.self.items (turn_more i (part_limit columns n))
-                c.in_ok-append.ensures.items before.1 asked.answer,
+                c.loop-piece.left.items c.in_ok-parts.parts.items c.append.new.pieces.items (turn_more i (part_limit columns n))
+                c.in_ok-append.ensures before.1 asked.answer,
           );
       charged = IsCharged_trans g h c.piece_without.new.meter so_far.charged c.in_ok-parts.ensures.meter;
       counted = counted_more g h c.piece_without.new.meter pieces piece i c.loop-piece.left.items c.in_ok-parts.parts.items
-          c.append.new.self.items low c.in_ok-append.ensures.items so_far.counted c.in_ok-parts.ensures.counted;
+          c.append.new.pieces.items low c.in_ok-append.ensures so_far.counted c.in_ok-parts.ensures.counted;
     }
 
 pub returns-clause-counted : goal.returns-clause-counted

@@ -83,7 +83,7 @@ loop-piece-preserved c =
     let kept = c.loop-piece.kept.items in
     let systems = c.in_ok-systems.systems.items in
     let more = c.in_ok-more.more.items in
-    let pushed = c.append.new.self.items in
+    let pushed = c.append.new.pieces.items in
     let so_far = c.loop-piece.invariant in
     let told = c.in_ok-more.ensures in
     let low : i < length pieces = omega arith in
@@ -104,18 +104,18 @@ loop-piece-preserved c =
     record {
       made = rw (next_piece pieces i piece low c.piece-item.is)
           (made_more g params (HasElement params) (map kept_piece (take i pieces)) (kept_piece piece) kept so_far.made more pushed
-          c.in_ok-append.ensures.items
+          c.in_ok-append.ensures
           here told.sound (small_before g m (map kept_piece more) charged told.numbers));
       parts = rw (next_piece pieces i piece low c.piece-item.is)
-          (flat_pushed params (map kept_piece (take i pieces)) (kept_piece piece) kept more pushed c.in_ok-append.ensures.items so_far.parts
+          (flat_pushed params (map kept_piece (take i pieces)) (kept_piece piece) kept more pushed c.in_ok-append.ensures so_far.parts
           (record { elements = here; same = λ none. absurd (opened none) }));
-      plain = plain_more kept more pushed c.in_ok-append.ensures.items so_far.plain (told.definitions flat.definitions);
+      plain = plain_more kept more pushed c.in_ok-append.ensures so_far.plain (told.definitions flat.definitions);
       charged = IsCharged_trans g m c.live_pieces_in.new.meter charged told.meter;
       counted =
           let here = c.in_ok-systems.ensures.counted in
           let few = told.few in
           let later = told.meter.units in
-          counted_more g h c.live_pieces_in.new.meter pieces piece i kept more pushed low c.in_ok-append.ensures.items so_far.counted
+          counted_more g h c.live_pieces_in.new.meter pieces piece i kept more pushed low c.in_ok-append.ensures so_far.counted
           (omega (arith, here, few, later));
       same = λ n.
           absurd (never_opened pieces c.args.self.now.pieces i piece c.system-system.result.now c.is_empty.result low c.piece-item.is

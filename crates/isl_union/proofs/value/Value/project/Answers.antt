@@ -98,7 +98,7 @@ loop-piece-preserved c =
     let to = space_form_of c.args.to.now in
     let kept = c.loop-piece.kept.items in
     let more = c.in_ok-more.more.items in
-    let pushed = c.append.new.self.items in
+    let pushed = c.append.new.pieces.items in
     let so_far = c.loop-piece.invariant in
     let told = c.in_ok-more.ensures in
     let low : i < length pieces = omega arith in
@@ -112,7 +112,7 @@ loop-piece-preserved c =
     record {
       made = rw (next_piece pieces i piece low c.piece-item.is)
           (made_more g params (HasBetween params space c.args.from c.args.count to) (map kept_piece (take i pieces)) (kept_piece piece) kept
-          so_far.made more pushed c.in_ok-append.ensures.items
+          so_far.made more pushed c.in_ok-append.ensures
           (λ v e. through (told.elements v e)
           (projected params piece space to c.args.from c.args.count c.requires.narrower lies free c.in_ok-systems.systems.items
           projection v e))
@@ -121,7 +121,7 @@ loop-piece-preserved c =
           let all = subst (All (λ (p : KeptPiece). p.definitions ≡ [])) (sym c.pieces-pieces.ensures.content) n in
           let none = item_has (λ p. p.system.definitions ≡ []) pieces i piece low c.piece-item.is
           (All-unmapped (λ (p : KeptPiece). p.definitions ≡ []) kept_piece pieces all) in
-          plain_more kept more pushed c.in_ok-append.ensures.items (so_far.plain n)
+          plain_more kept more pushed c.in_ok-append.ensures (so_far.plain n)
           (told.definitions (c.in_ok-systems.ensures.definitions (ap (λ (s : System). s.definitions) c.system.ensures ∙ none)));
       tame = λ size limit room all.
           let before = so_far.tame size limit room all in
@@ -144,7 +144,7 @@ loop-piece-preserved c =
           let work = narrowed_work size.columns count (length left) one in
           let turns = turn_more i ((count + size.columns) * (size.columns * size.columns)) in (
             omega (arith, first, second, third, work, turns),
-            sizes_append i 1 (i + 1) (size.columns - count) (size.bits + count) kept more pushed (omega arith) c.in_ok-append.ensures.items
+            sizes_append i 1 (i + 1) (size.columns - count) (size.bits + count) kept more pushed (omega arith) c.in_ok-append.ensures
                 before.1 (narrowed_sized (length left) (size.columns - count) (size.bits + count) more one next.answer),
           );
       charged = IsCharged_trans g m c.live_pieces_in.new.meter charged told.meter;
@@ -152,7 +152,7 @@ loop-piece-preserved c =
           let here = c.in_ok-systems.ensures.counted in
           let few = told.few in
           let later = told.meter.units in
-          counted_more g h c.live_pieces_in.new.meter pieces piece i kept more pushed low c.in_ok-append.ensures.items so_far.counted
+          counted_more g h c.live_pieces_in.new.meter pieces piece i kept more pushed low c.in_ok-append.ensures so_far.counted
           (omega (arith, here, few, later));
     }
 
