@@ -9,7 +9,7 @@ ghost use Rattle.isl_affine.specs.Scope.{Scope as Names};
 ghost use Rattle.isl_alternatives.specs.Restricted.{AreRestricted, HoldEverywhere, HoldsAs, IsOver};
 
 use isl_affine::Scope;
-use isl_difference::{append, live_form, outside, references};
+use isl_difference::{append, are_too_many, live_form, outside, references};
 use isl_meter::{Cut, Meter};
 use isl_piece::{Rows, System, meet, normalise};
 use std::alloc::{AllocError, Global};
@@ -84,6 +84,9 @@ fn met_with(alloc: Global, systems: &[System], other: &System) -> Result<Vec<Sys
     let mut met = Vec::with_capacity(alloc, systems.len())?;
     for system in systems {
         let both = meet(alloc, system, other)?;
+        if are_too_many(met.len(), &both) {
+            return Err(AllocError);
+        }
         met.push(both)?;
     }
     Ok(met)
@@ -225,6 +228,13 @@ fn most_rows(systems: &[System]) -> usize {
     most
 }
 
+// Whether so many systems like the last one take more memory than is kept.
+fn take_too_much(systems: &[System]) -> bool {
+    systems
+        .last()
+        .is_some_and(|system| are_too_many(systems.len(), system))
+}
+
 /// The systems, in their normal form where one of them has passed the room for rows; the room is for twice as many then. No unit is
 /// used.
 #[tactic(auto, using(std::proofs::lemmas::Grind::common_steps, crate::proofs::RestrictedLaws::as_they_are))]
@@ -240,6 +250,9 @@ pub(crate) fn with_room(
         (λ forms. AreRestricted meter.old meter.new scope.now systems.items (λ point env. Unit {0}) forms.items) }
     ensures meter { meter.new ≡ meter.old }
 {
+    if take_too_much(systems.as_slice()) {
+        return Err(AllocError);
+    }
     if most_rows(systems.as_slice()) <= *room {
         return Ok(systems);
     }

@@ -6,6 +6,7 @@ ghost use Rattle.isl_piece.specs.System.{IsSystemWithin, free_columns};
 ghost use Rattle.isl_assumed.specs.Left.{AreLeftOf};
 
 use isl_blocks::live_without;
+use isl_difference::append;
 use isl_meter::{Cut, Meter};
 use isl_piece::System;
 use std::alloc::Global;
@@ -32,7 +33,7 @@ pub(crate) fn left_of(
     let mut left = Vec::with_capacity(alloc, systems.len())?;
     for system in systems {
         let mut more = live_without(alloc, system, kept, count, meter)?;
-        left.append(&mut more)?;
+        append(&mut left, &mut more)?;
     }
     Ok(left)
 }

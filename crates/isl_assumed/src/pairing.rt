@@ -6,6 +6,7 @@ ghost use Rattle.isl_piece.specs.System.{IsSystemWithin, free_columns};
 ghost use Rattle.isl_assumed.specs.Left.{ArePairs, IsPair};
 
 use isl_blocks::spread;
+use isl_difference::are_too_many;
 use isl_meter::{Cut, Meter};
 use isl_piece::{System, meet};
 use std::alloc::Global;
@@ -64,7 +65,11 @@ pub fn pairs(
 {
     let mut pairs = Vec::with_capacity(alloc, others.len())?;
     for other in others {
-        pairs.push(pair(alloc, system, other, names, more, meter)?)?;
+        let both = pair(alloc, system, other, names, more, meter)?;
+        if are_too_many(pairs.len(), &both) {
+            return Err(Cut::NoMemory);
+        }
+        pairs.push(both)?;
     }
     Ok(pairs)
 }

@@ -20,6 +20,7 @@ use crate::left::left_of;
 use crate::onto::systems_onto;
 use crate::pairing::pairs;
 use isl_blocks::live_without;
+use isl_difference::append;
 use isl_meter::{Cut, Meter};
 use isl_piece::System;
 use isl_space::{Name, Params};
@@ -106,7 +107,7 @@ fn all_pairs(
     let mut all = Vec::new(alloc);
     for system in systems {
         let mut more = pairs(alloc, system, others, names, 0, meter)?;
-        all.append(&mut more)?;
+        append(&mut all, &mut more)?;
     }
     Ok(all)
 }
@@ -131,7 +132,7 @@ impl Region {
         for piece in pieces {
             let count = piece.space().width() as usize;
             let mut more = live_without(alloc, piece.system(), names, count, meter)?;
-            systems.append(&mut more)?;
+            append(&mut systems, &mut more)?;
         }
         let params = params.copy(alloc)?;
         Ok(Region { params, systems })

@@ -24,7 +24,7 @@ use isl_elim::is_empty;
 use isl_meter::{Cut, Meter};
 use isl_piece::{Piece, System};
 use isl_space::Params;
-use isl_union::{Value, live_pieces_in};
+use isl_union::{Value, append, live_pieces_in};
 use std::alloc::{AllocError, Global};
 
 // The elements of the piece at the points of which one of the systems holds, which are over a column for each parameter.
@@ -112,8 +112,8 @@ fn under_region(
     let pieces = value.pieces();
     let mut kept = Vec::new(alloc);
     for piece in pieces {
-        let mut more = piece_under(alloc, params, piece, systems.as_slice(), meter)?;
-        kept.append(&mut more)?;
+        let more = piece_under(alloc, params, piece, systems.as_slice(), meter)?;
+        append(&mut kept, more)?;
     }
     Ok(Value::from_normal(params.copy(alloc)?, kept))
 }

@@ -13,6 +13,7 @@ ghost use Rattle.isl_call_text.specs.CallText.{call_lines};
 
 use isl_ast::{Callee, Loop, run_loops};
 use isl_meter::{Cut, Meter};
+use isl_row_text::check_length;
 use isl_space::Name;
 use itoa::Buffer;
 use std::alloc::{AllocError, Global};
@@ -80,6 +81,7 @@ impl Callee for Lines {
     ghost called = { λ before event after. after ≡ before ++ call_line event };
 
     fn call(&mut self, name: &Option<Name>, args: &[i128]) -> Result<(), AllocError> {
+        check_length(self.text.len())?;
         write_name(&mut self.text, name)?;
         self.text.push_str("(")?;
         write_numbers(&mut self.text, args)?;
@@ -92,7 +94,7 @@ impl Callee for Lines {
 ///
 /// # Errors
 ///
-/// As of `isl_ast::run_loops`.
+/// As of `isl_ast::run_loops`; and `NoMemory` where the text is too long.
 pub fn run_text(alloc: Global, tree: &Loop, at: &[i128], meter: &mut Meter) -> Result<String, Cut>
     requires { IsLoopOver meter.old (length at.now) tree.now }
     ensures exact { MatchResult result

@@ -1,13 +1,13 @@
 //! Calls without those that come twice.
 
-ghost use Rattle.std.specs.Prelude.{◌≡◌, [], All, IfOk, map};
+ghost use Rattle.std.specs.Prelude.{◌≡◌, ◌++◌, [], All, IfOk, OnOk, map};
 ghost use Rattle.isl_meter.specs.Gauge.{IsMetered};
 ghost use Rattle.isl_space.specs.Shape.{form_of};
 ghost use Rattle.isl_piece.specs.System.{free_columns};
 ghost use Rattle.isl_calls.specs.Apart.{called_form, AreApartOf, AreEven, AreLeftOf, AreSystemsFor, IsLike, IsPlainWithin};
 
 use crate::Calls;
-use isl_difference::outside;
+use isl_difference::{are_too_many, outside};
 use isl_meter::{Cut, Meter};
 use isl_piece::System;
 use isl_space::Shape;
@@ -65,6 +65,20 @@ fn left_of(
     Ok(parts_of(alloc, calls, left)?)
 }
 
+// Puts the other calls behind these. They are as many together as are kept.
+fn append(calls: &mut Vec<Calls>, more: &mut Vec<Calls>) -> Result<(), AllocError>
+    ensures items { OnOk result (calls.new.items ≡ calls.old.items ++ more.old.items) }
+{
+    let count = calls.len().saturating_add(more.len());
+    if more
+        .last()
+        .is_some_and(|one| are_too_many(count, &one.system))
+    {
+        return Err(AllocError);
+    }
+    calls.append(more)
+}
+
 /// The same calls, without those that an earlier one has: no two have a point in common.
 ///
 /// # Errors
@@ -79,7 +93,7 @@ pub(crate) fn apart(alloc: Global, calls: &[Calls], meter: &mut Meter) -> Result
     let mut apart = Vec::new(alloc);
     for i in 0..calls.len() {
         let mut left = left_of(alloc, &calls[i], &calls[..i], meter)?;
-        apart.append(&mut left)?;
+        append(&mut apart, &mut left)?;
     }
     Ok(apart)
 }

@@ -8,6 +8,7 @@ ghost use Rattle.isl_extremes.specs.Systems.{AreBeaten, ArePlain};
 
 use crate::systems::Order;
 use isl_blocks::{live_without, order_case, spread};
+use isl_difference::append;
 use isl_meter::{Cut, Meter};
 use isl_piece::{System, meet};
 use std::alloc::{AllocError, Global};
@@ -73,7 +74,7 @@ pub(crate) fn all_beaten(
     let mut found = Vec::new(alloc);
     for system in systems {
         let mut more = beaten(alloc, system, order, at, meter)?;
-        found.append(&mut more)?;
+        append(&mut found, &mut more)?;
     }
     Ok(found)
 }

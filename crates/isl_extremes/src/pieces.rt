@@ -18,7 +18,7 @@ use isl_index::PieceIndex;
 use isl_meter::Meter;
 use isl_piece::Piece;
 use isl_space::{Params, Space};
-use isl_union::pieces_in;
+use isl_union::{append, pieces_in};
 use std::alloc::Global;
 
 // Which columns of the systems of a space are put in order.
@@ -89,8 +89,8 @@ pub(crate) fn first_pieces(
     let index = indexed(alloc, pieces)?;
     let mut made = Vec::new(alloc);
     for space in spaces.as_slice() {
-        let mut more = first_in(alloc, params, space, &index, direction, meter)?;
-        made.append(&mut more)?;
+        let more = first_in(alloc, params, space, &index, direction, meter)?;
+        append(&mut made, more)?;
     }
     Ok(made)
 }

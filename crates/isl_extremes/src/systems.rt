@@ -9,7 +9,7 @@ use crate::LexFault;
 use crate::beaten::all_beaten;
 use crate::ends::are_ended;
 use isl_blocks::Direction;
-use isl_difference::{outside, references};
+use isl_difference::{append, outside, references};
 use isl_meter::{Cut, Meter};
 use isl_piece::System;
 use std::alloc::{AllocError, Global};
@@ -50,7 +50,7 @@ fn all_outside(
     let mut left = Vec::new(alloc);
     for system in systems {
         let mut parts = outside(alloc, system, others.as_slice(), meter)?;
-        left.append(&mut parts)?;
+        append(&mut left, &mut parts)?;
     }
     Ok(left)
 }

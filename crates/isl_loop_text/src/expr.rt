@@ -6,6 +6,7 @@ ghost use Rattle.isl_row_text.specs.Joined.{each_after, joined_by};
 ghost use Rattle.isl_loop_text.specs.ExprText.{sign_text, coefficient_text, constant_text, expr_text, atom_text};
 
 use isl_loop::{Atom, Expr};
+use isl_row_text::check_length;
 use isl_space::Name;
 use std::alloc::AllocError;
 use std::fmt::Write;
@@ -50,6 +51,7 @@ fn write_constant(out: &mut String, is_first: bool, constant: i128) -> Result<()
 fn write_column(out: &mut String, names: &[Name], place: usize) -> Result<(), AllocError>
     ensures { OnOk result (string_bytes out.new ≡ string_bytes out.old ++ slice_index_or names.now place []) }
 {
+    check_length(out.len())?;
     match names.get(place) {
         Some(name) => out.push_str(name.as_str()),
         None => Ok(()),

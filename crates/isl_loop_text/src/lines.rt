@@ -12,7 +12,7 @@ ghost use Rattle.isl_loop_text.specs.Rest.{depth_of, lines_of, IsScope};
 use crate::expr::{write_expr, write_exprs};
 use isl_loop::{Expr, Loop};
 use isl_piece::Row;
-use isl_row_text::{free_name, param_names, write_row};
+use isl_row_text::{check_length, free_name, param_names, write_row};
 use isl_space::{Name, Params};
 use std::alloc::{AllocError, Global};
 use std::fmt::Write;
@@ -36,6 +36,7 @@ fn write_range(
     ensures { OnOk result (string_bytes out.new
         ≡ string_bytes out.old ++ range_text variable.now (expr_text names.now low.now) (expr_text names.now high.now)) }
 {
+    check_length(out.len())?;
     let variable = variable.as_str();
     write!(out, "for ({variable} = ")?;
     write_expr(out, names, low)?;
@@ -105,6 +106,7 @@ fn write_call(
 ) -> Result<(), AllocError>
     ensures { OnOk result (string_bytes out.new ≡ string_bytes out.old ++ call_text names.now name.now args.now ++ 10 ∷ []) }
 {
+    check_length(out.len())?;
     write_name(out, name)?;
     out.push_str("(")?;
     write_exprs(out, names, args)?;
@@ -205,7 +207,7 @@ fn write_parts(
 ///
 /// # Errors
 ///
-/// Where memory ends.
+/// Where memory ends, or the text is too long.
 pub fn loop_text(alloc: Global, tree: &Loop, params: &Params) -> Result<String, AllocError>
     ensures { IfOk result (λ text. string_bytes text ≡ loop_text params.now tree.now) }
 {

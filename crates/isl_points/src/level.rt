@@ -15,6 +15,7 @@ ghost use Rattle.isl_points.specs.Line.{IsListing};
 
 use crate::Points;
 use crate::line::{Line, excluding};
+use crate::list::check_count;
 use crate::row::{LineRow, rows_behind, rows_behind_on, solution};
 use isl_meter::{Cut, Int, Meter};
 use isl_piece::System;
@@ -139,6 +140,7 @@ fn numbers_of_any(
     let mut room = room;
     for system in systems {
         room = numbers_of(system, prefix, room, meter)?;
+        check_count(found.len())?;
         found.extend_from_slice(room.numbers.as_slice())?;
     }
     found.sort()?;
@@ -175,6 +177,7 @@ fn push_each(prefix: &[i128], numbers: &[Int], longer: &mut Vec<i128>) -> Result
     ensures { OnOk result (longer.new.items ≡ longer.old.items ++ laid_out (behind prefix.now numbers.now)) }
 {
     for x in numbers {
+        check_count(longer.len())?;
         longer.extend_from_slice(prefix)?;
         longer.push(x.get())?;
     }

@@ -12,4 +12,4 @@ mod row;
 mod walk;
 
 pub use fibre::Fibre;
-pub use list::Points;
+pub use list::{Points, check_count};

@@ -10,6 +10,7 @@ ghost use Rattle.isl_tower.specs.Ends.{HasLowerEnd, HasUpperEnd};
 
 use crate::division::remainder;
 use crate::interval::Interval;
+use crate::list::check_count;
 use crate::progression::Progression;
 use crate::row::LineRow;
 use isl_meter::{Cut, Int, Meter, Overflow};
@@ -120,6 +121,7 @@ fn try_number(found: &mut Vec<Int>, rows: &[LineRow], x: Int, meter: &mut Meter)
 {
     meter.unit()?;
     if all_allow(rows, x, meter)? {
+        check_count(found.len())?;
         found.push(x)?;
     }
     Ok(())

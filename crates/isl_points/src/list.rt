@@ -1,10 +1,27 @@
 //! Lists of points.
 
-ghost use Rattle.std.specs.Prelude.{◌≡◌, ◌<◌, ◌*◌, [], length, slice_index_or, IsTrue, ◌↔◌};
+ghost use Rattle.std.specs.Prelude.{◌≡◌, ◌<◌, ◌≤◌, ◌*◌, OnOk, [], length, slice_index_or, IsTrue, ◌↔◌};
 ghost use Rattle.isl_points.specs.Flat.{points_in};
 
-use std::alloc::Global;
+use std::alloc::{AllocError, Global};
 use std::marker::Model;
+
+// How many numbers have others put behind them: so many take 64 MiB. More count as want of memory, so that memory is bounded as time is.
+const MOST_NUMBERS: usize = 4_194_304;
+
+/// Whether more numbers may be put behind so many.
+///
+/// # Errors
+///
+/// `AllocError` where they are more than are kept.
+pub fn check_count(numbers: usize) -> Result<(), AllocError>
+    ensures { OnOk result (numbers ≤ 4194304) }
+{
+    if numbers > MOST_NUMBERS {
+        return Err(AllocError);
+    }
+    Ok(())
+}
 
 /// Points of one width, in order. Their numbers lie behind one another in one list.
 #[derive(Drop)]
@@ -54,6 +71,11 @@ impl Points {
         ensures { result ≡ length self.now }
     {
         self.count
+    }
+
+    /// How many numbers they have together.
+    pub fn size(&self) -> usize {
+        self.numbers.len()
     }
 
     pub fn is_empty(&self) -> bool

@@ -116,14 +116,15 @@ pieces_written f (x ∷ xs) first old opened one rest new some is a b c d =
     ∙ append_assoc (old ++ codes "{ ") (f first) others ∙ append_assoc old (codes "{ ") (f first ++ others))
     ∙ append_assoc old (codes "{ " ++ (f first ++ others)) (codes " }") ∙ ap (λ y. old ++ (codes "{ " ++ (f y ++ others) ++ codes " }")) is
 
-pub value_written : {A : Type 0} (f : A → KeptPiece) (value : KeptValue) (ordered : List A) (params : List Name) (between new : Text)
+pub value_written : {A : Type 0} (f : A → KeptPiece) (value : KeptValue) (ordered : List A) (params : List Name) (old between new : Text)
     → params ≡ value.params
-    → map f ordered ≡ in_order piece_before value.pieces → between ≡ params_text params → new ≡ between ++ pieces_text (map (λ a. piece_text params (f a)) ordered)
-    → new ≡ printed value
-value_written f value ordered params between new is sorted names pieces =
+    → map f ordered ≡ in_order piece_before value.pieces → between ≡ old ++ params_text params → new ≡ between ++ pieces_text (map (λ a. piece_text params (f a)) ordered)
+    → new ≡ old ++ printed value
+value_written f value ordered params old between new is sorted names pieces =
     pieces ∙ ap (λ t. t ++ pieces_text (map (λ a. piece_text params (f a)) ordered)) names
-    ∙ ap (λ ts. params_text params ++ pieces_text ts) (piece_texts f params value.pieces ordered sorted)
-    ∙ ap (λ ns. params_text ns ++ pieces_text (map (piece_text ns) (in_order piece_before value.pieces))) is
+    ∙ append_assoc old (params_text params) (pieces_text (map (λ a. piece_text params (f a)) ordered))
+    ∙ ap (λ ts. old ++ (params_text params ++ pieces_text ts)) (piece_texts f params value.pieces ordered sorted)
+    ∙ ap (λ ns. old ++ (params_text ns ++ pieces_text (map (piece_text ns) (in_order piece_before value.pieces)))) is
 
 -- the text of some of the entries of a tuple
 pub ruleset tuple_steps = (take-map, drop-map)

@@ -7,5 +7,5 @@ mod text;
 mod tuple;
 
 pub use isl_row_text::Side;
-pub use text::text_of;
+pub use text::{text_of, write_value};
 pub use tuple::{Entry, write_tuples};

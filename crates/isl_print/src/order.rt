@@ -7,6 +7,7 @@ ghost use Rattle.isl_row_text.specs.Ordered.{in_order};
 ghost use Rattle.isl_print.specs.PieceOrder.{piece_cmp, piece_before};
 
 use isl_piece::Piece;
+use isl_row_text::check_length;
 use std::alloc::{AllocError, Global};
 use std::cmp::Ordering;
 
@@ -32,8 +33,11 @@ pub(crate) fn ordered_pieces<'a>(
     ensures { IfOk result (λ ordered. map (λ titled. kept_piece titled.piece.now) ordered.items ≡ in_order piece_before (map kept_piece pieces.now)) }
 {
     let mut ordered = Vec::with_capacity(alloc, pieces.len())?;
+    let mut bytes = 0usize;
     for piece in pieces {
         let title = piece.space().text(alloc)?;
+        bytes = bytes.saturating_add(title.len());
+        check_length(bytes)?;
         ordered.push(Titled { title, piece })?;
     }
     ordered.sort_by(|a, b| compare_titled(a, b))?;

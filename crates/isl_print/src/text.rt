@@ -111,18 +111,31 @@ fn write_params(alloc: Global, out: &mut String, params: &Params) -> Result<(), 
     out.push_str("] -> ")
 }
 
-/// The value as text: a literal that has its elements.
+/// Writes the value as text: a literal that has its elements.
 ///
 /// # Errors
 ///
-/// Where memory ends.
+/// Where memory ends, or the text is too long.
+pub fn write_value(alloc: Global, out: &mut String, value: &Value) -> Result<(), AllocError>
+    requires { HasNoDefinitions value.now }
+    ensures { OnOk result (string_bytes out.new ≡ string_bytes out.old ++ printed value.now) }
+{
+    let pieces = ordered_pieces(alloc, value.pieces())?;
+    write_params(alloc, out, value.params())?;
+    write_pieces(alloc, out, value.params(), pieces.as_slice())?;
+    Ok(())
+}
+
+/// The same text alone.
+///
+/// # Errors
+///
+/// Where memory ends, or the text is too long.
 pub fn text_of(alloc: Global, value: &Value) -> Result<String, AllocError>
     requires { HasNoDefinitions value.now }
     ensures { IfOk result (λ text. string_bytes text ≡ printed value.now) }
 {
     let mut out = String::new(alloc);
-    let pieces = ordered_pieces(alloc, value.pieces())?;
-    write_params(alloc, &mut out, value.params())?;
-    write_pieces(alloc, &mut out, value.params(), pieces.as_slice())?;
+    write_value(alloc, &mut out, value)?;
     Ok(out)
 }

@@ -9,6 +9,7 @@ ghost use Rattle.isl_space.specs.Space.{space_form_of};
 ghost use Rattle.isl_row_text.specs.Joined.{joined_by, each_after};
 ghost use Rattle.isl_print.specs.Tuple.{tuple_text, tuples_text};
 
+use isl_row_text::check_length;
 use isl_space::{Name, Shape, Space};
 use itoa::Buffer;
 use std::alloc::AllocError;
@@ -105,7 +106,7 @@ fn write_tuple<E: Entry>(out: &mut String, shape: &Shape, entries: &[E]) -> Resu
 ///
 /// # Errors
 ///
-/// Where memory ends.
+/// Where memory ends, or what is written already is too long.
 #[tactic(auto, using(std::proofs::lemmas::Grind::common_steps, crate::proofs::TextLaws::tuple_steps))]
 pub fn write_tuples<E: Entry>(
     out: &mut String,
@@ -117,6 +118,7 @@ pub fn write_tuples<E: Entry>(
     ensures { OnOk result
         (string_bytes out.new ≡ string_bytes out.old ++ tuples_text (space_form_of space.now) (map E.text entries.now)) }
 {
+    check_length(out.len())?;
     match space {
         Space::Set(shape) => write_tuple(out, shape, entries),
         Space::Map(from, to) => {

@@ -3,6 +3,7 @@
 ghost use Rattle.std.specs.Prelude.{◌≡◌, ◌++◌, OnOk, string_bytes};
 ghost use Rattle.isl_row_text.specs.RowText.{relation_text, remainder_text, row_text};
 
+use crate::length::check_length;
 use crate::sum::{Side, write_side};
 use isl_piece::{Row, RowKind};
 use isl_space::Name;
@@ -37,10 +38,11 @@ fn write_relation(
 ///
 /// # Errors
 ///
-/// Where memory ends.
+/// Where memory ends, or what is written already is too long.
 pub fn write_row(out: &mut String, names: &[Name], row: &Row) -> Result<(), AllocError>
     ensures { OnOk result (string_bytes out.new ≡ string_bytes out.old ++ row_text names.now row.now) }
 {
+    check_length(out.len())?;
     match row.kind {
         RowKind::Zero => write_relation(out, " = ", names, row),
         RowKind::AtLeast => write_relation(out, " >= ", names, row),

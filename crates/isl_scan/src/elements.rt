@@ -13,13 +13,21 @@ ghost use Rattle.isl_scan.specs.Gathered.{AreFibresOf, AreGathered, IsGroupOf, I
 ghost use Rattle.isl_scan.specs.Groups.{elements_of, AreGroups};
 ghost use Rattle.isl_scan.specs.Listing.{IsListingOf};
 
-use crate::group::{Group, merged_groups};
+use crate::group::{Group, merged_groups, weight_of};
 use crate::{Listing, ScanFault};
+use isl_difference::are_too_many;
 use isl_meter::{Cut, Meter};
 use isl_piece::Piece;
-use isl_points::Fibre;
+use isl_points::{Fibre, check_count};
 use isl_union::Value;
 use std::alloc::Global;
+
+// Whether the towers of so many pieces like this one take more memory than is kept.
+fn have_too_many(fibres: usize, piece: &Piece) -> bool {
+    let system = piece.system();
+    let levels = system.columns.saturating_add(1);
+    are_too_many(fibres.saturating_mul(levels), system)
+}
 
 // The fibres of the pieces over these numbers for the parameters; none where one of the pieces has infinitely many elements there.
 #[tactic(auto, using(std::proofs::lemmas::Grind::common_steps, isl_meter::proofs::CutLemmas::charges))]
@@ -36,6 +44,9 @@ fn fibres_over(
 {
     let mut fibres = Vec::with_capacity(alloc, pieces.len())?;
     for piece in pieces {
+        if have_too_many(fibres.len(), piece) {
+            return Err(Cut::NoMemory);
+        }
         match Fibre::over(alloc, piece.system(), at, meter)? {
             Some(fibre) => fibres.push(fibre)?,
             None => return Ok(None),
@@ -64,12 +75,13 @@ fn group_of(alloc: Global, piece: &Piece, fibre: &Fibre, meter: &mut Meter) -> R
     })
 }
 
-// The same as the only group.
+// The same as the only group, beside others of this weight.
 #[tactic(auto, using(std::proofs::lemmas::Grind::common_steps, isl_meter::proofs::CutLemmas::charges))]
 fn one_group(
     alloc: Global,
     piece: &Piece,
     fibre: &Fibre,
+    kept: usize,
     meter: &mut Meter,
 ) -> Result<Vec<Group>, Cut>
     requires { (numbers : List ℤ) × IsListable meter.old numbers piece.now × IsFibreOf meter.old piece.now.system numbers fibre.now }
@@ -79,17 +91,19 @@ fn one_group(
     ensures meter { IsMetered meter.old meter.new result }
 {
     let group = group_of(alloc, piece, fibre, meter)?;
+    check_count(kept.saturating_add(group.weight()))?;
     let mut groups = Vec::new(alloc);
     groups.push(group)?;
     Ok(groups)
 }
 
-// The elements of the pieces whose fibres these are: of one half of them, and of the other.
+// The elements of the pieces whose fibres these are, beside others of this weight: of one half of them, and of the other.
 #[tactic(auto, using(std::proofs::lemmas::Grind::common_steps, isl_meter::proofs::CutLemmas::charges))]
 fn groups_of(
     alloc: Global,
     pieces: &[Piece],
     fibres: &[Fibre],
+    kept: usize,
     meter: &mut Meter,
 ) -> Result<Vec<Group>, Cut>
     requires { (numbers : List ℤ) × AreFibresOf meter.old numbers pieces.now fibres.now }
@@ -101,13 +115,14 @@ fn groups_of(
 {
     match pieces {
         [] => Ok(Vec::new(alloc)),
-        [piece] => one_group(alloc, piece, &fibres[0], meter),
+        [piece] => one_group(alloc, piece, &fibres[0], kept, meter),
         _ => {
             let half = pieces.len() / 2;
             let (first_pieces, other_pieces) = pieces.split_at(half);
             let (first_fibres, other_fibres) = fibres.split_at(half);
-            let firsts = groups_of(alloc, first_pieces, first_fibres, meter)?;
-            let seconds = groups_of(alloc, other_pieces, other_fibres, meter)?;
+            let firsts = groups_of(alloc, first_pieces, first_fibres, kept, meter)?;
+            let more = kept.saturating_add(weight_of(firsts.as_slice()));
+            let seconds = groups_of(alloc, other_pieces, other_fibres, more, meter)?;
             // There are no more elements than units, which 64 bits hold.
             let _units = meter.units();
             Ok(merged_groups(alloc, firsts, seconds)?)
@@ -144,7 +159,7 @@ pub fn scan(
         Some(fibres) => fibres,
         None => return Err(ScanFault::Unbounded),
     };
-    let groups = groups_of(alloc, pieces, fibres.as_slice(), meter)?;
+    let groups = groups_of(alloc, pieces, fibres.as_slice(), 0, meter)?;
     // There are no more elements than units, which 64 bits hold.
     let _units = meter.units();
     Ok(Listing { groups })

@@ -18,6 +18,22 @@ pub(crate) struct Group {
     pub(crate) points: Points,
 }
 
+impl Group {
+    // How many numbers take as much memory as it does: those of its points, and one for every 16 bytes of its title.
+    pub(crate) fn weight(&self) -> usize {
+        self.points.size().saturating_add(self.title.len() / 16)
+    }
+}
+
+// The same of all of them.
+pub(crate) fn weight_of(groups: &[Group]) -> usize {
+    let mut weight = 0usize;
+    for group in groups {
+        weight = weight.saturating_add(group.weight());
+    }
+    weight
+}
+
 // One group of two of a space.
 fn joined(alloc: Global, group: Group, other: Group) -> Result<Group, AllocError>
     requires group { IsGroup group }

@@ -25,7 +25,7 @@ loop-system-preserved c =
     let so_far = c.loop-system.invariant in
     record {
       left = left_more g h c.args.kept c.args.count c.args.systems.now c.loop-system.system-index c.system-item.result
-          c.loop-system.left.items c.in_ok-more.more.items c.append.new.self.items c.loop-system-test.true c.system-item.is
+          c.loop-system.left.items c.in_ok-more.more.items c.append.new.systems.items c.loop-system-test.true c.system-item.is
           so_far.charged c.in_ok-append.ensures.items so_far.left c.in_ok-more.ensures.left;
       charged = IsCharged_trans g h c.live_without.new.meter so_far.charged c.in_ok-more.ensures.meter;
     }

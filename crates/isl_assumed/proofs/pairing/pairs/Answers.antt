@@ -29,11 +29,11 @@ loop-other-preserved c =
     let so_far = c.loop-other.invariant in
     record {
       pairs = pairs_more g h c.args.names c.args.more c.args.system.now c.args.others.now c.loop-other.other-index c.other-item.result
-          c.in_ok-pair.field-0 c.loop-other.pairs.items c.push.new.self.items c.loop-other-test.true c.other-item.is
-          (charged_bits g h so_far.charged) c.in_ok-push.ensures.items so_far.pairs c.in_ok-pair.ensures.pair;
+          c.in_ok-both.both c.loop-other.pairs.items c.push.new.self.items c.loop-other-test.true c.other-item.is
+          (charged_bits g h so_far.charged) c.in_ok-push.ensures.items so_far.pairs c.in_ok-both.ensures.pair;
       units = count_more g h c.pair.new.meter c.args.others.now c.loop-other.other-index c.loop-other-test.true so_far.units
-          c.in_ok-pair.ensures.unit;
-      charged = IsCharged_trans g h c.pair.new.meter so_far.charged c.in_ok-pair.ensures.meter;
+          c.in_ok-both.ensures.unit;
+      charged = IsCharged_trans g h c.pair.new.meter so_far.charged c.in_ok-both.ensures.meter;
     }
 
 pub returns-clause-pairs : goal.returns-clause-pairs

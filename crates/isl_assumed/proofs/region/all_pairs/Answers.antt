@@ -28,7 +28,7 @@ loop-system-preserved c =
     let so_far = c.loop-system.invariant in
     record {
       met = met_more g h c.args.names c.args.systems.now c.args.others.now c.loop-system.system-index c.system-item.result
-          c.loop-system.all.items c.in_ok-more.more.items c.append.new.self.items c.loop-system-test.true c.system-item.is
+          c.loop-system.all.items c.in_ok-more.more.items c.append.new.systems.items c.loop-system-test.true c.system-item.is
           (charged_bits g h so_far.charged) c.in_ok-append.ensures.items so_far.met c.in_ok-more.ensures.pairs;
       units = counts_more g.units h.units c.pairs.new.meter.units (length c.args.others.now) c.args.systems.now c.loop-system.system-index
           c.loop-system-test.true so_far.units c.in_ok-more.ensures.units;

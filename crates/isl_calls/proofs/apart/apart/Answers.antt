@@ -41,11 +41,11 @@ loop-i-preserved c =
     let made = c.loop-i.apart.items in
     let left = c.in_ok-left.left.items in
     let low : i < length calls = grind (arith, common_steps) in
-    let pushed : c.append.new.self.items ≡ made ++ left = c.in_ok-append.ensures.items in
+    let pushed : c.append.new.calls.items ≡ made ++ left = c.in_ok-append.ensures.items in
     let charged : IsCharged h k = grind arith in
     let rest = left_kept g h one (take i calls) left c.loop-i.invariant.1 c.in_ok-left.ensures.left in (
       apart_more g calls i one low c.index-calls-i.is made left c.requires.sound c.requires.even c.loop-i.invariant.0 rest
-          c.append.new.self.items pushed,
+          c.append.new.calls.items pushed,
       IsCharged_trans g h k c.loop-i.invariant.1 charged,
     )
 

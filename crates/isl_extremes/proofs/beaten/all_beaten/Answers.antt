@@ -42,7 +42,7 @@ loop-system-preserved c =
     record {
       beaten = beaten_more g h c.args.order c.args.at so_far.charged systems i c.system-item.result low c.system-item.is
           c.loop-system.found.items
-          c.in_ok-more.more.items c.append.new.self.items c.in_ok-append.ensures.items so_far.beaten c.in_ok-more.ensures.beaten;
+          c.in_ok-more.more.items c.append.new.systems.items c.in_ok-append.ensures.items so_far.beaten c.in_ok-more.ensures.beaten;
       charged = IsCharged_trans g h c.beaten.new.meter so_far.charged c.in_ok-more.ensures.meter;
     }
 

@@ -55,10 +55,10 @@ loop-space-preserved c =
     let told = c.in_ok-more.ensures in
     let first = rw c.in_ok-index.ensures at told.first in
     let there = rw c.in_ok-index.ensures at told.meter.0 in
-    subst (λ (ss : List SpaceForm). AreFirstSoFar g c.first_in.new.meter params d ss pieces c.append.new.self.items)
+    subst (λ (ss : List SpaceForm). AreFirstSoFar g c.first_in.new.meter params d ss pieces c.append.new.pieces.items)
     (sym (spaces_more spaces i s low c.space-item.is))
     (so_far_more g c.loop-space.meter params d pieces c.first_in.new.meter (map space_form_of (take i spaces)) (space_form_of s)
-    c.loop-space.made.items c.in_ok-more.more.items c.append.new.self.items c.in_ok-append.ensures.items c.loop-space.invariant told.meter.1
+    c.loop-space.made.items c.in_ok-more.more.items c.append.new.pieces.items c.in_ok-append.ensures c.loop-space.invariant told.meter.1
     first there)
 
 pub returns-clause-made : goal.returns-clause-made

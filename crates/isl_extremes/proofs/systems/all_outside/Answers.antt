@@ -56,7 +56,7 @@ loop-system-preserved c =
     record {
       left = outside_more g h n so_far.charged systems i s low c.system-item.is live others c.loop-system.left.items
           c.in_ok-parts.parts.items
-          c.append.new.self.items c.in_ok-append.ensures.items so_far.left exact.0 plain;
+          c.append.new.systems.items c.in_ok-append.ensures.items so_far.left exact.0 plain;
       charged = IsCharged_trans g h k so_far.charged exact.1;
     }
 

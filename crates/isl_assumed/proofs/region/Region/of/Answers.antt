@@ -32,7 +32,7 @@ loop-piece-preserved c =
     let named = c.len-names.ensures.len ∙ ap (λ (names : List Name). length names) c.params-params.ensures.content in
     let one = rw (c.system.ensures, named, c.width-count.ensures ∙ ap coordinates_of c.space.ensures) at c.in_ok-more.ensures.left in
     record {
-      left = left_next g h params pieces i p c.loop-piece.systems.items c.in_ok-more.more.items c.append.new.self.items low at sound
+      left = left_next g h params pieces i p c.loop-piece.systems.items c.in_ok-more.more.items c.append.new.systems.items low at sound
           (charged_bits g h so_far.charged) c.in_ok-append.ensures.items so_far.left one;
       charged = IsCharged_trans g h c.live_without.new.meter so_far.charged c.in_ok-more.ensures.meter;
     }

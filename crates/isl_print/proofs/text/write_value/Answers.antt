@@ -7,7 +7,7 @@ use Rattle.isl_union.specs.Piece.{kept_piece}
 use Rattle.isl_row_text.specs.Ordered.{in_order}
 use Rattle.isl_print.specs.PieceOrder.{piece_before}
 use Rattle.isl_print.proofs.TextLaws.{All-map_back, All-in_order, value_written}
-use Rattle.isl_print.proofs.text.text_of.Goals as goal
+use Rattle.isl_print.proofs.text.write_value.Goals as goal
 
 pub write_pieces-requires : goal.write_pieces-requires
 write_pieces-requires c =
@@ -18,5 +18,5 @@ write_pieces-requires c =
 
 pub returns : goal.returns
 returns c =
-    value_written (λ titled. kept_piece titled.piece.now) c.args.value.now c.in_ok-pieces.pieces.items c.params-2.result.now (string_bytes c.write_params.new.out) _ c.params-2.ensures.content
+    value_written (λ titled. kept_piece titled.piece.now) c.args.value.now c.in_ok-pieces.pieces.items c.params-2.result.now (string_bytes c.args.out.now) (string_bytes c.write_params.new.out) _ c.params-2.ensures.content
     (grind (arith, common_steps)) (grind (arith, common_steps)) (grind (arith, common_steps))
