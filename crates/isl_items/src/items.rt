@@ -12,11 +12,18 @@ ghost use Rattle.isl_items.specs.Items.{AreItemsOf, IsItemOf};
 
 use crate::item::item_of;
 use isl_calls::{Calls, calls_of};
+use isl_difference::are_too_many;
 use isl_meter::{Cut, Meter};
 use isl_nest::Item;
 use isl_schedule::GenFault;
 use isl_union::Value;
 use std::alloc::Global;
+
+// Whether so many items like one of these calls, each with a cover of each level, take more memory than is kept.
+fn have_too_many(items: usize, params: usize, calls: &Calls) -> bool {
+    let levels = calls.system.columns.saturating_sub(params);
+    are_too_many(items.saturating_mul(levels), &calls.system)
+}
 
 // An item for each of the calls, in order.
 fn all_items(
@@ -31,6 +38,9 @@ fn all_items(
 {
     let mut items = Vec::with_capacity(alloc, calls.len())?;
     for one in calls {
+        if have_too_many(items.len(), params, one) {
+            return Err(Cut::NoMemory);
+        }
         items.push(item_of(alloc, params, one, meter)?)?;
     }
     Ok(items)
