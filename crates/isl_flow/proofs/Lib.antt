@@ -8,6 +8,7 @@ pub mod OrderLaws
 pub mod OverLaws
 pub mod PieceLaws
 pub mod SinkLaws
+pub mod SolvedLaws
 pub mod SourceLaws
 pub mod SpreadLaws
 pub mod TimedLaws

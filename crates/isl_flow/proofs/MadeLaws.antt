@@ -1,11 +1,20 @@
 -- Lists that are made one part after another.
-use Rattle.std.proofs.Common.{◌≡◌, ◌↔◌, inl, inr, sym, ap, ◌∙◌, subst, ℕ, ◌+◌, ◌<◌, ◌≤◌, List, [], ◌∷◌, ◌++◌, Any, length, get_or}
-use Rattle.std.proofs.Common.{take}
+use Rattle.std.proofs.Common.{◌≡◌, ◌↔◌, inl, inr, sym, ap, ◌∙◌, subst, ℕ, ◌+◌, ◌<◌, ◌≤◌, List, [], ◌∷◌, ◌++◌, append_assoc, All, Any}
+use Rattle.std.proofs.Common.{length, get_or, take}
 use Rattle.std.proofs.lemmas.List.{take_all, take_more}
-use Rattle.std.proofs.lemmas.List.Elements.{All-append, All-nil}
-use Rattle.isl_math.proofs.ListLaws.{Any-first, Any-left, Any-none, Any-one, Any-parts, Any-right}
+use Rattle.std.proofs.lemmas.List.Elements.{All-append, All-cons, All-head, All-nil}
+use Rattle.isl_math.proofs.ListLaws.{All-parts, Any-first, Any-left, Any-none, Any-one, Any-parts, Any-right}
 use Rattle.isl_flow.specs.Made.{AreMade}
 
+-- ---- a list of which some are done, and one is next
+module _ {A : Type 0} (xs done rest : List A) (x : A) (split : done ++ x ∷ rest ≡ xs) where
+  pub split_next : (done ++ x ∷ []) ++ rest ≡ xs
+  split_next = append_assoc done (x ∷ []) rest ∙ split
+
+  pub next_has : (P : A → Type 0) → All P xs → P x
+  next_has P all = All-head P x rest (All-parts P done (x ∷ rest) (subst (All P) (sym split) all)).1
+
+-- ---- lists that are made
 module _ {I C : Type 0} (Has : I → C → Type 0) (K Plain : C → Type 0) (S : Type 0) where
   pub made_nothing : (P : I → Type 0) → ((i : I) → ¬ P i) → (made : List C) → made ≡ [] → AreMade Has K Plain S P made
   made_nothing P none made is = rw is (record {
@@ -13,6 +22,14 @@ module _ {I C : Type 0} (Has : I → C → Type 0) (K Plain : C → Type 0) (S :
     sound = All-nil K;
     plain = λ s. All-nil Plain;
   })
+
+  -- the thing alone
+  pub made_one : (c : C) → K c → (S → Plain c) → AreMade Has K Plain S (λ i. Has i c) (c ∷ [])
+  made_one c sound plain = record {
+    has = λ i. ((λ a. Any-one (Has i) c a), (λ h. Any-first (Has i) c [] h));
+    sound = All-cons K c [] sound (All-nil K);
+    plain = λ s. All-cons Plain c [] (plain s) (All-nil Plain);
+  }
 
   -- the same list, of weaker things
   pub made_same : (L : C → Type 0) (T : Type 0) (P Q : I → Type 0) → ((c : C) → K c → L c) → (T → S) → ((i : I) → P i ↔ Q i)
@@ -35,24 +52,21 @@ module _ {I C : Type 0} (Has : I → C → Type 0) (K Plain : C → Type 0) (S :
     made_all n end made so_far =
         subst (λ (ys : List A). AreMade Has K Plain S (λ i. Any (Q i) ys) made) (take_all n xs end) so_far
 
-    module _ (n : ℕ) (x : A) (low : n < length xs) (at : x ≡ get_or xs n x) where
-      next : take (n + 1) xs ≡ take n xs ++ x ∷ []
-      next = take_more xs n x low ∙ ap (λ y. take n xs ++ y ∷ []) (sym at)
-
-      -- one more of them
-      pub made_more : (L : C → Type 0) (T : Type 0) (P : I → Type 0) → ((c : C) → L c → K c) → (S → T) → ((i : I) → P i ↔ Q i x)
-          → (made more pushed : List C) → pushed ≡ made ++ more → AreMade Has K Plain S (λ i. Any (Q i) (take n xs)) made
-          → AreMade Has L Plain T P more → AreMade Has K Plain S (λ i. Any (Q i) (take (n + 1) xs)) pushed
-      made_more L T P weaker simple same made more pushed is so_far one = rw (is, next) (record {
+    -- one more of them
+    module _ (done : List A) (x : A) where
+      pub made_behind : (L : C → Type 0) (T : Type 0) (P : I → Type 0) → ((c : C) → L c → K c) → (S → T) → ((i : I) → P i ↔ Q i x)
+          → (made more pushed : List C) → pushed ≡ made ++ more → AreMade Has K Plain S (λ i. Any (Q i) done) made
+          → AreMade Has L Plain T P more → AreMade Has K Plain S (λ i. Any (Q i) (done ++ x ∷ [])) pushed
+      made_behind L T P weaker simple same made more pushed is so_far one = rw is (record {
         has = λ i.
             let a = so_far.has i in
             let b = one.has i in
             let c = same i in (
               (λ h. elim (Any-parts (Has i) made more h) [
-                | inl x ↦ Any-left (Q i) (take n xs) (x_list) (a.0 x)
-                | inr y ↦ Any-right (Q i) (take n xs) (x_list) (Any-first (Q i) x_item [] (c.0 (b.0 y)))
+                | inl y ↦ Any-left (Q i) done x_list (a.0 y)
+                | inr y ↦ Any-right (Q i) done x_list (Any-first (Q i) x_item [] (c.0 (b.0 y)))
               ]),
-              (λ h. elim (Any-parts (Q i) (take n xs) (x_list) h) [
+              (λ h. elim (Any-parts (Q i) done x_list h) [
                 | inl y ↦ Any-left (Has i) made more (a.1 y)
                 | inr y ↦ Any-right (Has i) made more (b.1 (c.1 (Any-one (Q i) x_item y)))
               ]),
@@ -66,3 +80,14 @@ module _ {I C : Type 0} (Has : I → C → Type 0) (K Plain : C → Type 0) (S :
 
           x_list : List A
           x_list = x ∷ []
+
+    module _ (n : ℕ) (x : A) (low : n < length xs) (at : x ≡ get_or xs n x) where
+      next : take (n + 1) xs ≡ take n xs ++ x ∷ []
+      next = take_more xs n x low ∙ ap (λ y. take n xs ++ y ∷ []) (sym at)
+
+      pub made_more : (L : C → Type 0) (T : Type 0) (P : I → Type 0) → ((c : C) → L c → K c) → (S → T) → ((i : I) → P i ↔ Q i x)
+          → (made more pushed : List C) → pushed ≡ made ++ more → AreMade Has K Plain S (λ i. Any (Q i) (take n xs)) made
+          → AreMade Has L Plain T P more → AreMade Has K Plain S (λ i. Any (Q i) (take (n + 1) xs)) pushed
+      made_more L T P weaker simple same made more pushed is so_far one =
+          subst (λ (ys : List A). AreMade Has K Plain S (λ i. Any (Q i) ys) pushed) (sym next)
+          (made_behind (take n xs) x L T P weaker simple same made more pushed is so_far one)

@@ -5,6 +5,7 @@ pub mod Made
 pub mod Operands
 pub mod Over
 pub mod Precedence
+pub mod Solved
 pub mod Spreads
 pub mod Turned
 pub mod WideAccess

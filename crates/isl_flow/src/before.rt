@@ -15,10 +15,10 @@ ghost use Rattle.isl_flow.specs.Made.{AreMade};
 ghost use Rattle.isl_flow.specs.Precedence.{HasAt, IsPlainPrecedence, IsPrecedence, IsSound, Shows};
 ghost use Rattle.isl_flow.specs.WideAccess.{IsFormed};
 
+use crate::equations::left_without;
 use crate::operands::aligned;
 use crate::precedence::{Precedence, precedences};
 use crate::wide::have_wide_access;
-use isl_blocks::live_without;
 use isl_meter::{Cut, Meter};
 use isl_piece::Piece;
 use isl_space::{Params, Space};
@@ -41,7 +41,7 @@ fn pieces_of(
     let forms = &precedence.forms;
     let kept = params.len() + forms.source.width() as usize + forms.sink.width() as usize;
     let rest = forms.access.width() as usize + 2 * forms.time.width() as usize;
-    let systems = live_without(alloc, &precedence.system, kept, rest, meter)?;
+    let systems = left_without(alloc, &precedence.system, kept, rest, meter)?;
     let space = Space::Map(forms.source.clone()?, forms.sink.clone()?);
     Ok(pieces_in(alloc, &space, systems)?)
 }
@@ -109,7 +109,7 @@ pub fn any(
     let sources = operands.sources.as_slice();
     let sinks = operands.sinks.as_slice();
     let times = operands.times.as_slice();
-    let found = precedences(alloc, params, sources, sinks, times, meter)?;
+    let found = precedences(alloc, params, sources, sinks, times, false, meter)?;
     let made = all_pieces_of(alloc, params, found.as_slice(), meter)?;
     Ok(Value::from_normal(operands.params, made))
 }

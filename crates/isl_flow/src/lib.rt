@@ -2,6 +2,7 @@
 #![tactic(auto)]
 
 mod before;
+mod equations;
 mod forms;
 mod gathered;
 mod lasts;

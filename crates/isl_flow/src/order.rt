@@ -12,6 +12,8 @@ ghost use Rattle.isl_flow.specs.Made.{AreMade};
 ghost use Rattle.isl_flow.specs.Precedence.{HasOccurrence, HoldsFor, IsPlainPrecedence, IsAccessed};
 
 use crate::forms::{Forms, widths_for};
+use crate::gathered::append;
+use crate::live::kept;
 use crate::precedence::Precedence;
 use isl_blocks::{Direction, order_case};
 use isl_meter::{Cut, Meter};
@@ -20,13 +22,14 @@ use isl_space::Params;
 use std::alloc::Global;
 
 /// The precedences of the shapes where the system holds, and the first time comes before the other: one for each place at which they
-/// may differ first, for a unit.
+/// may differ first, for a unit. Where live ones alone are kept, those that have a point.
 #[tactic(auto, using(std::proofs::lemmas::Grind::common_steps, isl_meter::proofs::CutLemmas::charges))]
 pub(crate) fn ordered(
     alloc: Global,
     params: &Params,
     forms: &Forms,
     system: &System,
+    live: bool,
     meter: &mut Meter,
 ) -> Result<Vec<Precedence>, Cut>
     requires narrow { AreNarrowForms forms.now }
@@ -46,10 +49,12 @@ pub(crate) fn ordered(
     for at in 0..forms.time.width() as usize {
         meter.unit()?;
         let case = order_case(alloc, widths.as_slice(), 4, 5, at, Direction::Before)?;
-        made.push(Precedence {
+        let precedence = Precedence {
             forms: forms.copy()?,
             system: meet(alloc, system, &case)?,
-        })?;
+        };
+        let mut more = kept(alloc, params, precedence, live, meter)?;
+        append(&mut made, &mut more)?;
     }
     Ok(made)
 }

@@ -8,7 +8,8 @@ ghost use Rattle.isl_flow.specs.Made.{AreMade};
 ghost use Rattle.isl_flow.specs.Over.{row_alone, GivesColumn, GivesLast, HoldsGiven, HoldsLong, HoldsLongBefore, IsAcross, IsLeftOver};
 ghost use Rattle.isl_flow.specs.Over.{IsReduced, IsRemainder, IsShortened};
 
-use isl_blocks::{live_without, without_last};
+use crate::equations::left_without;
+use isl_blocks::without_last;
 use isl_difference::{append, outside, references};
 use isl_meter::{Cut, Int, Meter};
 use isl_piece::{Coefs, Row, RowKind, Rows, System, meet};
@@ -175,23 +176,23 @@ fn all_reduced(
     Ok(left)
 }
 
-// Those of the systems without their last columns that have a point.
+// Those of the systems without their last columns that have a point. Each system is let go as soon as it was asked.
 #[tactic(auto, using(std::proofs::lemmas::Grind::common_steps, isl_meter::proofs::CutLemmas::charges))]
 fn all_live_without(
     alloc: Global,
-    systems: &[System],
+    systems: Vec<System>,
     kept: usize,
     count: usize,
     meter: &mut Meter,
 ) -> Result<Vec<System>, Cut>
-    requires { All (IsAcross meter.old (kept + count)) systems.now }
+    requires { All (IsAcross meter.old (kept + count)) systems.items }
     ensures made { IfOk result (λ made. AreMade (HoldsLong kept) (IsLive meter.old kept) (λ s. s.definitions ≡ [])
-        (All (λ s. s.definitions ≡ []) systems.now) (λ point. Any (HoldsLongBefore kept count point) systems.now) made.items) }
+        (All (λ s. s.definitions ≡ []) systems.items) (λ point. Any (HoldsLongBefore kept count point) systems.items) made.items) }
     ensures meter { IsMetered meter.old meter.new result }
 {
     let mut made = Vec::new(alloc);
     for system in systems {
-        let mut more = live_without(alloc, system, kept, count, meter)?;
+        let mut more = left_without(alloc, &system, kept, count, meter)?;
         append(&mut made, &mut more)?;
     }
     Ok(made)
@@ -212,5 +213,5 @@ pub(crate) fn left_over(
     let short = all_reduced(alloc, asked, kept, meter)?;
     let others = references(alloc, short.others.as_slice())?;
     let parts = outside(alloc, &short.system, others.as_slice(), meter)?;
-    all_live_without(alloc, parts.as_slice(), kept, short.count, meter)
+    all_live_without(alloc, parts, kept, short.count, meter)
 }

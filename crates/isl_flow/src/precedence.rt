@@ -36,6 +36,7 @@ fn between(
     accesses: &Accesses<'_>,
     start: &Piece,
     stop: &Piece,
+    live: bool,
     meter: &mut Meter,
 ) -> Result<Vec<Precedence>, Cut>
     requires source { IsPieceOf params.now accesses.now.source.now }
@@ -59,7 +60,7 @@ fn between(
     };
     let widths = widths_for(alloc, params, &forms)?;
     let system = timed_accesses(alloc, widths.as_slice(), accesses, start, stop)?;
-    ordered(alloc, params, &forms, &system, meter)
+    ordered(alloc, params, &forms, &system, live, meter)
 }
 
 // Those at times of one piece and of each of the others.
@@ -70,6 +71,7 @@ fn from_start(
     accesses: &Accesses<'_>,
     start: &Piece,
     times: &[Piece],
+    live: bool,
     meter: &mut Meter,
 ) -> Result<Vec<Precedence>, Cut>
     requires source { IsPieceOf params.now accesses.now.source.now }
@@ -88,7 +90,7 @@ fn from_start(
 {
     let mut made = Vec::new(alloc);
     for stop in times {
-        let mut more = between(alloc, params, accesses, start, stop, meter)?;
+        let mut more = between(alloc, params, accesses, start, stop, live, meter)?;
         append(&mut made, &mut more)?;
     }
     Ok(made)
@@ -101,6 +103,7 @@ fn of_accesses(
     params: &Params,
     accesses: &Accesses<'_>,
     times: &[Piece],
+    live: bool,
     meter: &mut Meter,
 ) -> Result<Vec<Precedence>, Cut>
     requires source { IsPieceOf params.now accesses.now.source.now }
@@ -117,7 +120,7 @@ fn of_accesses(
 {
     let mut made = Vec::new(alloc);
     for start in times {
-        let mut more = from_start(alloc, params, accesses, start, times, meter)?;
+        let mut more = from_start(alloc, params, accesses, start, times, live, meter)?;
         append(&mut made, &mut more)?;
     }
     Ok(made)
@@ -131,6 +134,7 @@ fn of_source(
     source: &Piece,
     sinks: &[Piece],
     times: &[Piece],
+    live: bool,
     meter: &mut Meter,
 ) -> Result<Vec<Precedence>, Cut>
     requires source { IsPieceOf params.now source.now }
@@ -148,13 +152,14 @@ fn of_source(
     let mut made = Vec::new(alloc);
     for sink in sinks {
         let accesses = Accesses { source, sink };
-        let mut more = of_accesses(alloc, params, &accesses, times, meter)?;
+        let mut more = of_accesses(alloc, params, &accesses, times, live, meter)?;
         append(&mut made, &mut more)?;
     }
     Ok(made)
 }
 
-/// The precedences of the sources and the sinks, at these times.
+/// The precedences of the sources and the sinks, at these times. Where live ones alone are kept, each is asked as it is made: those that
+/// have a point, in their normal form.
 #[tactic(auto, using(std::proofs::lemmas::Grind::common_steps, isl_meter::proofs::CutLemmas::charges))]
 pub(crate) fn precedences(
     alloc: Global,
@@ -162,6 +167,7 @@ pub(crate) fn precedences(
     sources: &[Piece],
     sinks: &[Piece],
     times: &[Piece],
+    live: bool,
     meter: &mut Meter,
 ) -> Result<Vec<Precedence>, Cut>
     requires sources { All (IsPieceOf params.now) sources.now }
@@ -178,7 +184,7 @@ pub(crate) fn precedences(
 {
     let mut made = Vec::new(alloc);
     for source in sources {
-        let mut more = of_source(alloc, params, source, sinks, times, meter)?;
+        let mut more = of_source(alloc, params, source, sinks, times, live, meter)?;
         append(&mut made, &mut more)?;
     }
     Ok(made)

@@ -21,7 +21,6 @@ ghost use Rattle.isl_flow.specs.WideAccess.{IsFormed};
 use crate::before::all_pieces_of;
 use crate::lasts::all_lasts;
 use crate::later::all_laters;
-use crate::live::all_live;
 use crate::operands::{Operands, aligned};
 use crate::precedence::{Precedence, precedences};
 use crate::sinks::{maps_in, pieces_without};
@@ -60,8 +59,7 @@ fn live_precedences(
     let sources = operands.sources.as_slice();
     let sinks = operands.sinks.as_slice();
     let times = operands.times.as_slice();
-    let found = precedences(alloc, params, sources, sinks, times, meter)?;
-    all_live(alloc, params, found.as_slice(), meter)
+    precedences(alloc, params, sources, sinks, times, true, meter)
 }
 
 // The pieces from the last sources to their sinks.

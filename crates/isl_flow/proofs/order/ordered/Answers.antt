@@ -5,6 +5,7 @@ use Rattle.isl_space.specs.Form.{width_of}
 use Rattle.isl_space.specs.Shape.{form_of}
 use Rattle.isl_space.specs.declared.shape.Shape.{Shape}
 use Rattle.isl_math.specs.Order.{IsBefore}
+use Rattle.isl_math.proofs.ListLaws.{All-last, Any-first, Any-one}
 use Rattle.isl_piece.specs.declared.system.System.{System}
 use Rattle.isl_piece.specs.System.{HoldsSystem}
 use Rattle.isl_blocks.specs.Blocks.{block_at, numbers_of}
@@ -13,14 +14,41 @@ use Rattle.isl_flow.specs.declared.precedence.Precedence.{Precedence}
 use Rattle.isl_flow.specs.Forms.{widths_for}
 use Rattle.isl_flow.specs.Precedence.{HasOccurrence, HoldsFor, IsPlainPrecedence, IsAccessed}
 use Rattle.isl_flow.proofs.MadeLaws.{made_all, made_more, made_same}
-use Rattle.isl_flow.proofs.OrderLaws.{DiffersFirst, case_made, case_over, itself_over, places_in, some_place}
+use Rattle.isl_flow.proofs.OrderLaws.{accessed_before, accessed_later, case_made, case_over, itself_over, places_in, some_place}
+use Rattle.isl_flow.proofs.OrderLaws.{DiffersFirst}
 use Rattle.isl_flow.proofs.SpreadLaws.{meet_made}
 use Rattle.isl_flow.proofs.order.ordered.Goals as goal
+
+pub kept-requires : goal.kept-requires
+kept-requires c =
+    let g = c.args.meter.now in
+    let h = c.loop-at.meter in
+    let k = c.unit.new.self in
+    let params = c.args.params.now in
+    let f = c.args.forms.now in
+    let s = c.args.system.now in
+    let i = c.loop-at.at in
+    let so_far = c.loop-at.invariant in
+    let widths = widths_for params f in
+    let case = c.in_ok-case.case in
+    let r : Precedence = record { forms = c.in_ok-copy.field-0; system = c.in_ok-meet.field-0 } in
+    let own = itself_over g widths s c.requires.within c.requires.columns in
+    let other = case_over g widths 4 5 i case c.limit-limit.ensures.bits_low
+    (rw (c.as_slice.ensures.value, c.in_ok-widths.ensures.exact) at c.in_ok-case.ensures) in
+    let made : Result System (Unit {0}) = Ok c.in_ok-meet.field-0 in
+    let both = meet_made g widths (s.definitions ≡ []) (Unit {0}) (λ blocks. HoldsSystem s (numbers_of blocks))
+    (λ blocks. IsBeforeAt i (block_at blocks 4) (block_at blocks 5)) s case own other made
+    (λ point l. c.in_ok-meet.ensures.points g point own.within other.within l) (c.in_ok-meet.ensures.within g own.within other.within)
+    (c.in_ok-meet.ensures.free g own.within other.within) c.in_ok-meet.ensures.same in
+    let one = case_made g params f s r i c.requires.narrow c.requires.space c.requires.place c.in_ok-copy.ensures both in
+    let charged = IsCharged_trans g h k so_far.charged (IsCharged-unit h k c.in_ok-unit.ensures.1) in
+    record { precedence = accessed_later g k params r charged (All-last (IsAccessed g params) [] r one.sound).1 }
 
 pub loop-at-preserved : goal.loop-at-preserved
 loop-at-preserved c =
     let g = c.args.meter.now in
     let h = c.loop-at.meter in
+    let k = c.unit.new.self in
     let params = c.args.params.now in
     let f = c.args.forms.now in
     let s = c.args.system.now in
@@ -43,13 +71,19 @@ loop-at-preserved c =
     (λ blocks. IsBeforeAt i (block_at blocks 4) (block_at blocks 5)) s case own other made
     (λ point l. c.in_ok-meet.ensures.points g point own.within other.within l) (c.in_ok-meet.ensures.within g own.within other.within)
     (c.in_ok-meet.ensures.free g own.within other.within) c.in_ok-meet.ensures.same in
+    let one = case_made g params f s r i c.requires.narrow c.requires.space c.requires.place c.in_ok-copy.ensures both in
+    let charged = IsCharged_trans g h k so_far.charged (IsCharged-unit h k c.in_ok-unit.ensures.1) in
     record {
       made = made_more (HasOccurrence params) (IsAccessed g params) IsPlainPrecedence (s.definitions ≡ []) (λ o n. DiffersFirst
           params f s o n)
-          (places_in f) i i inside at (IsAccessed g params) (s.definitions ≡ []) (λ o. DiffersFirst params f s o i) (λ p is. is) (λ e. e)
-          (λ o. ((λ x. x), (λ x. x))) c.loop-at.made.items (r ∷ []) c.push.new.self.items c.in_ok-push.ensures.items so_far.made
-          (case_made g params f s r i c.requires.narrow c.requires.space c.requires.place c.in_ok-copy.ensures both);
-      charged = IsCharged_trans g h c.unit.new.self so_far.charged (IsCharged-unit h c.unit.new.self c.in_ok-unit.ensures.1);
+          (places_in f) i i inside at (IsAccessed k params) (IsPlainPrecedence r) (λ o. HasOccurrence params o r)
+          (λ p is. accessed_before g k params p charged is) (λ e. (All-last IsPlainPrecedence [] r (one.plain e)).1)
+          (λ o.
+          let a = one.has o in
+          ((λ x. a.0 (Any-first (HasOccurrence params o) r [] x)), (λ d. Any-one (HasOccurrence params o) r (a.1 d))))
+          c.loop-at.made.items c.in_ok-more.more.items c.append.new.precedences.items c.in_ok-append.ensures.items so_far.made
+          c.in_ok-more.ensures.made;
+      charged = IsCharged_trans g k c.kept.new.meter charged c.in_ok-more.ensures.meter;
     }
 
 pub returns-clause-made : goal.returns-clause-made

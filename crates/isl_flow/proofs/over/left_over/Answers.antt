@@ -35,10 +35,10 @@ all_live_without-requires c =
     let short = c.in_ok-short.short in
     let is = c.in_ok-short.ensures.made.is in
     let exact = c.in_ok-parts.ensures.exact in
-    rw c.as_slice-3.ensures.value (λ i d l.
+    λ i d l.
     let part = exact.0.each i d l in
     across_later h k (c.args.kept + short.count) (get_or c.in_ok-parts.parts.items i d) exact.1
-    (record { free = part.columns ∙ is.system.free; within = part.within }))
+    (record { free = part.columns ∙ is.system.free; within = part.within })
 
 pub returns-clause-made : goal.returns-clause-made
 returns-clause-made c =
@@ -53,7 +53,7 @@ returns-clause-made c =
     let plain = rw same at c.in_ok-parts.ensures.definitions in
     let charged = IsCharged_trans g h k c.in_ok-short.ensures.meter exact.1 in
     let r = c.all_live_without.result in
-    let all = rw c.as_slice-3.ensures.value at c.all_live_without.ensures.made in
+    let all = c.all_live_without.ensures.made in
     IfOk-weaker r (λ made. AreMade (HoldsLong kept) (IsLive k kept) IsPlainSystem (All IsPlainSystem c.in_ok-parts.parts.items)
     (λ point. Any (HoldsLongBefore kept short.count point) c.in_ok-parts.parts.items) made.items)
     (λ left. IsLeftOver g kept c.args.asked left.items)
