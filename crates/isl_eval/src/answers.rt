@@ -4,7 +4,7 @@ ghost use Rattle.std.specs.Prelude.{◌≡◌, ◌≢◌, ◌++◌, [], Some, If
 ghost use Rattle.isl_union.specs.KeptValue.{HasNoDefinitions};
 ghost use Rattle.isl_eval.specs.Machine as machine;
 
-use isl_print::text_of;
+use isl_print::{text_of, write_value};
 use isl_scan::Listing;
 use isl_union::Value;
 use isl_values::Kept;
@@ -26,9 +26,9 @@ fn text_of_two(alloc: Global, first: &Value, second: &Value) -> Result<String, A
     ensures { IfOk result (λ text. string_bytes text ≡ machine.text_of_two first.now (Some second.now)) }
 {
     let mut text = String::from_str(alloc, "(")?;
-    text.push_str(&text_of(alloc, first)?)?;
+    write_value(alloc, &mut text, first)?;
     text.push_str(", ")?;
-    text.push_str(&text_of(alloc, second)?)?;
+    write_value(alloc, &mut text, second)?;
     text.push(')')?;
     Ok(text)
 }
