@@ -5,7 +5,7 @@ system is empty, what is left of it without some columns, and what it leaves of 
     bench/systems.py PROGRAM [COUNT [SEED]]
 
 tells of how many of so many systems (10,000) an answer differs, and of how many one is refused for want of units, of which each statement has
-100,000. The status is 1 where an answer differs."""
+100,000, or of memory. The status is 1 where an answer differs."""
 import itertools
 import random
 import re
@@ -78,12 +78,16 @@ def asked(columns, greatest, rows):
 
 
 def answers(program, statements):
-    """What each statement is answered, or None where it is refused."""
+    """What each statement is answered, or None where it is refused. Behind one for which memory is wanting a run begins anew."""
     words = [program, "--keep-going", "--budget", "100000"]
     ran = subprocess.run(words, input="\n".join(statements).encode(), capture_output=True, check=False)
-    refused = {int(number) for number in re.findall(r"statement (\d+): budget spent", ran.stderr.decode())}
+    told = ran.stderr.decode()
+    refused = {int(number) for number in re.findall(r"statement (\d+): budget spent", told)}
+    ended = re.search(r"statement (\d+): out of memory", told)
+    end = int(ended.group(1)) if ended else len(statements) + 1
     lines = iter(ran.stdout.decode().splitlines())
-    return [None if number in refused else next(lines, "nothing") for number in range(1, len(statements) + 1)]
+    found = [None if number in refused else next(lines, "nothing") for number in range(1, min(end, len(statements) + 1))]
+    return found + [None] + answers(program, statements[end:]) if ended else found
 
 
 def main(words):
