@@ -7,7 +7,7 @@ use std::alloc::AllocError;
 
 // How many bytes the rows of all lists take at most, as the last one tells. More count as want of memory, so that memory is bounded as time
 // is.
-const MOST_BYTES: usize = 67_108_864;
+const MOST_BYTES: usize = 100_663_296;
 
 // A row takes so many bytes, and so many coefficients lie in it; where there are more, each takes so many beside it.
 const ROW_BYTES: usize = 208;
@@ -35,7 +35,7 @@ pub fn are_too_many(count: usize, rows: &[Row], columns: usize) -> bool {
         > MOST_BYTES
 }
 
-/// Puts the rows, which are over so many columns, behind the other lists.
+/// Puts the rows, which are over so many columns, behind the other lists. They were made of more rows, and keep no room for these.
 ///
 /// # Errors
 ///
@@ -43,9 +43,11 @@ pub fn are_too_many(count: usize, rows: &[Row], columns: usize) -> bool {
 pub fn push_list(lists: &mut Vec<Rows>, rows: Rows, columns: usize) -> Result<(), AllocError>
     ensures { OnOk result (lists.new.items ≡ lists.old.items ++ rows ∷ []) }
 {
-    if are_too_many(lists.len(), rows.as_slice(), columns) {
+    let mut kept = Vec::from(rows);
+    if are_too_many(lists.len(), kept.as_slice(), columns) {
         return Err(AllocError);
     }
-    lists.push(rows)?;
+    kept.shrink_to_fit();
+    lists.push(Rows::from(kept))?;
     Ok(())
 }
