@@ -117,7 +117,7 @@ module _ (bits col : ℕ) (r : Row) (h : IsDifferenceRow bits r) (inside : col <
 
 -- ---- rows
 -- a difference constraint over so many columns
-record IsWideDifference (columns bits : ℕ) (r : Row) : Type 0 where
+pub record IsWideDifference (columns bits : ℕ) (r : Row) : Type 0 where
   pub row : IsDifferenceRow bits r
   pub width : length r.coefs ≡ columns
 
@@ -127,7 +127,7 @@ record IsUpperDifference (columns bits col : ℕ) (r : Row) : Type 0 where
   pub under : coef_at r col <ℤ pos 0
 
 -- such an equality, which has the column
-record IsPivot (columns bits col : ℕ) (r : Row) : Type 0 where
+pub record IsPivot (columns bits col : ℕ) (r : Row) : Type 0 where
   pub is : IsWideDifference columns bits r
   pub there : coef_at r col ≢ pos 0
 
@@ -179,6 +179,12 @@ module _ (columns bits col : ℕ) (inside : col < columns) where
         width = length-weighted_sum m r.coefs n fixed.coefs same ∙ w;
       }
 
+  pub image_left : (fixed r : Row) → IsPivot columns bits col fixed → IsWideDifference columns bits r
+      → IsDifferenceRow (bits + 1) (dropped (image_of fixed col r) col)
+  image_left fixed r p h =
+      let i = image fixed r p h in
+      difference_left (bits + 1) col (image_of fixed col r) i.row (let w = i.width in omega arith)
+
   trivial : (fixed : Row) → IsPivot columns bits col fixed → IsTrivial (dropped (solvable fixed col) col)
   trivial fixed p = record {
     kind = refl;
@@ -195,12 +201,7 @@ module _ (columns bits col : ℕ) (inside : col < columns) where
   solved_for_left fixed rows p h = normal_differences (bits + 1) (map (λ r. dropped r col) (images_of fixed col rows))
       (All-map (IsKeptOrTrivial (bits + 1)) (λ r. dropped r col) (images_of fixed col rows)
       (All-cons (λ r. IsKeptOrTrivial (bits + 1) (dropped r col)) (solvable fixed col) (map (image_of fixed col) rows) (inr (trivial fixed p))
-      (All-map (λ r. IsKeptOrTrivial (bits + 1) (dropped r col)) (image_of fixed col) rows (λ k d l. inl (image_out (get_or rows k d) (h k d l))))))
-    where
-      image_out : (r : Row) → IsWideDifference columns bits r → IsDifferenceRow (bits + 1) (dropped (image_of fixed col r) col)
-      image_out r k =
-          let i = image fixed r p k in
-          difference_left (bits + 1) col (image_of fixed col r) i.row (let w = i.width in omega arith)
+      (All-map (λ r. IsKeptOrTrivial (bits + 1) (dropped r col)) (image_of fixed col) rows (λ k d l. inl (image_left fixed (get_or rows k d) p (h k d l))))))
 
   exact_left : (rows : List Row) → All (IsWideDifference columns bits) (on_side Free col rows)
       → All (IsWideDifference columns bits) (on_side Lower col rows)

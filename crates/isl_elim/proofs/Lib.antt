@@ -5,6 +5,7 @@ pub mod DifferenceColumns
 pub mod EmptinessLaws
 pub mod FewerLaws
 pub mod FlattenLaws
+pub mod GivenLaws
 pub mod KeptLaws
 pub mod LeftLaws
 pub mod OpenedLaws
@@ -13,5 +14,6 @@ pub mod PartsLaws
 pub mod ProjectionLaws
 pub mod RangeLaws
 pub mod SampleLaws
+pub mod SolvedLaws
 pub mod TameLaws
 pub mod TameSystems

@@ -93,7 +93,7 @@ pub adds_all : (bits : ℕ) (old new : List (List Row)) → old ≡ [] → AddsF
 adds_all bits old new e a = let all : new ≡ a.added = a.pushed ∙ ap (λ xs. xs ++ a.added) e in subst (AreFewDifferences bits) (sym all) a.are
 
 -- ---- a column, and then the others
-product_more : (a b c d : ℕ) → a ≤ c → b ≤ d → a * b ≤ c * d
+pub product_more : (a b c d : ℕ) → a ≤ c → b ≤ d → a * b ≤ c * d
 product_more a b c d l m = let x = mul-le-mul_right b l in let y = mul-le-mul_left c m in omega arith
 
 sum_columns : (columns n count : ℕ) → n + 1 ≡ count → columns * columns + n * ((columns - 1) * (columns - 1)) ≤ count * (columns * columns)

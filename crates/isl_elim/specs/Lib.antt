@@ -5,6 +5,7 @@ pub mod Flatten
 pub mod Opened
 pub mod Others
 pub mod Sample
+pub mod Solved
 pub mod Tame
 pub use Rattle.isl_column.specs.Column
 pub use Rattle.isl_column.specs.Exact

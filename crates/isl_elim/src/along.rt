@@ -9,15 +9,17 @@ ghost use Rattle.isl_elim.specs.Elimination.{AddsAlong};
 ghost use Rattle.isl_simpler.specs.Emptiness.{HoldNowhere};
 ghost use Rattle.isl_simpler.specs.Fixed.{HoldAlike};
 ghost use Rattle.isl_elim.specs.Others.{others_of};
+ghost use Rattle.isl_elim.specs.Solved.{IsGivenBy};
 ghost use Rattle.isl_elim.specs.Tame.{AreFewDifferences, AddsFewDifferences, IsDifferenceHead, IsTameOn};
 ghost use Rattle.isl_column.specs.Parts.{AreParts, HoldsPart, head_count};
 ghost use Rattle.isl_ledger.specs.Difference.{IsDifferenceRow};
 
 use crate::emptiness::hold_nowhere;
+use crate::solved::{substituted, unit_at};
 use isl_column::{Parts, push_list};
 use isl_meter::{Cut, Meter};
 use isl_omega::column::Column;
-use isl_piece::Rows;
+use isl_piece::{Row, Rows};
 use isl_redundant::without_redundant;
 use isl_simpler::{add_many_rows, cheapest, with_fixed};
 use std::alloc::{AllocError, Global};
@@ -165,9 +167,9 @@ fn push_parts(
     Ok(())
 }
 
-/// What is left of the rows without the columns: lists of normal rows.
+// What is left of the rows without the columns, once they are normal.
 #[tactic(auto, using(crate::proofs::AlongLaws::along_steps))]
-pub(crate) fn rows_without(
+fn normal_without(
     alloc: Global,
     rows: Rows,
     columns: usize,
@@ -192,4 +194,55 @@ pub(crate) fn rows_without(
             Ok(lists)
         }
     }
+}
+
+// A column, and the place of an equality that has it with 1 or -1.
+#[derive(Clone, Copy)]
+struct Given {
+    col: usize,
+    at: usize,
+}
+
+// The first of the columns that an equality has with 1 or -1, and the place of that equality.
+fn given_column(rows: &[Row], cols: &[usize]) -> Option<Given>
+    ensures { IfSome result (IsGivenBy rows.now cols.now) }
+{
+    for &col in cols {
+        if let Some(at) = unit_at(rows, col) {
+            return Some(Given { col, at });
+        }
+    }
+    None
+}
+
+/// What is left of the rows without the columns: lists of normal rows. Columns that an equality has with 1 or -1 go first, by
+/// substitution where the rows lie, which uses no unit; only then the rows are made normal.
+#[tactic(auto, using(crate::proofs::GivenLaws::solved_steps))]
+pub(crate) fn rows_without(
+    alloc: Global,
+    rows: Rows,
+    columns: usize,
+    cols: &[usize],
+    meter: &mut Meter,
+) -> Result<Vec<Rows>, Cut>
+    requires rows { All (IsProper meter.old columns) rows }
+    requires distinct { AllPairs (λ a b. a ≢ b) cols.now }
+    requires cols_in { All (λ col. col < columns) cols.now }
+    ensures exact { MatchResult result
+        (λ lists. AddsAlong meter.old columns cols.now (HoldRows rows) [] lists.items × IsCharged meter.old meter.new)
+        (IsCutBy meter.old meter.new) }
+    ensures counted { IfOk result (λ lists. meter.old.units + length lists.items ≤ meter.new.units + 1) }
+    ensures tame { IsTameOn columns (λ bits. All (IsDifferenceRow bits) rows) (length cols.now * (columns * columns)) meter.old meter.new
+        (λ bits lists. AreFewDifferences (bits + length cols.now) lists.items) result }
+{
+    let Some(given) = given_column(rows.as_slice(), cols) else {
+        return normal_without(alloc, rows, columns, cols, meter);
+    };
+    let left = others(alloc, cols, given.col)?;
+    let column = Column {
+        columns,
+        at: given.col,
+    };
+    let short = substituted(alloc, rows, given.at, column, meter)?;
+    rows_without(alloc, short, columns - 1, left.as_slice(), meter)
 }

@@ -12,6 +12,7 @@ mod opened;
 mod progression;
 mod projection;
 mod sample;
+mod solved;
 
 pub use columns::columns_between;
 pub use emptiness::{is_empty, is_normal_empty};

@@ -9,7 +9,7 @@ use Rattle.isl_meter.proofs.CutLemmas.{IsCharged_refl}
 use Rattle.isl_piece.specs.System.{HoldRows}
 use Rattle.isl_elim.specs.Elimination.{AddsAlong}
 use Rattle.isl_elim.proofs.AlongLaws.{along_normal, along_false, proper_rows}
-use Rattle.isl_elim.proofs.along.rows_without.Goals as goal
+use Rattle.isl_elim.proofs.along.normal_without.Goals as goal
 
 pub push_without-requires-clause-rows : goal.push_without-requires-clause-rows
 push_without-requires-clause-rows c =
