@@ -10,8 +10,8 @@ ghost use Rattle.isl_tree.specs.Environment.{Environment};
 ghost use Rattle.isl_alternatives.specs.Known.{AreBindersKnown};
 ghost use Rattle.isl_alternatives.specs.Restricted.{IsOver, IsBodyOf, AreProjected, MatchesValue};
 
+use crate::lists::append;
 use isl_affine::{Scope, with_entry};
-use isl_difference::append;
 use isl_elim::{columns_between, eliminate_all, with_fewer_rows};
 use isl_meter::{Cut, Meter};
 use isl_piece::System;

@@ -10,9 +10,8 @@ ghost use Rattle.isl_alternatives.specs.Restricted.{AreRestricted, HoldsAs, IsOv
 ghost use Rattle.isl_tree.specs.Formula.{ChainHolds};
 
 use crate::comparisons::Comparisons;
-use crate::lists::{ROOM, begun, copies, with_room};
+use crate::lists::{ROOM, append, begun, copies, with_room};
 use isl_affine::{Comparison, Scope, with_comparison};
-use isl_difference::append;
 use isl_meter::{Cut, Meter};
 use isl_piece::System;
 use isl_tree::tree::{Compare, Link, Term};

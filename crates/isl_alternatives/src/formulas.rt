@@ -12,9 +12,8 @@ ghost use Rattle.isl_alternatives.specs.Restricted.{AreRestricted, AreWhere, Hol
 
 use crate::bound::{bound, projected};
 use crate::chains::{Chain, with_chain};
-use crate::lists::{begun, live, normal_forms, selected};
+use crate::lists::{append, begun, live, normal_forms, selected};
 use isl_affine::Scope;
-use isl_difference::append;
 use isl_meter::{Cut, Meter};
 use isl_piece::System;
 use isl_tree::tree::{Binder, Formula};

@@ -1,6 +1,6 @@
 //! Lists of systems: copied, met with others, without others, in their normal form, and without those that hold nowhere.
 
-ghost use Rattle.std.specs.Prelude.{◌≡◌, ◌⊎◌, ◌+◌, ◌≤◌, ◌++◌, [], All, IfOk, IsTrue, MatchResult, length};
+ghost use Rattle.std.specs.Prelude.{◌≡◌, ◌⊎◌, ◌+◌, ◌≤◌, ◌++◌, [], All, IfOk, IsTrue, MatchResult, OnOk, length};
 ghost use Rattle.isl_meter.specs.Gauge.{Gauge, IsCharged, IsCutBy};
 ghost use Rattle.isl_piece.specs.Normal.{IsNormal};
 ghost use Rattle.isl_piece.specs.System.{HoldsSystem, free_columns};
@@ -9,7 +9,7 @@ ghost use Rattle.isl_affine.specs.Scope.{Scope as Names};
 ghost use Rattle.isl_alternatives.specs.Restricted.{AreRestricted, HoldEverywhere, HoldsAs, IsOver};
 
 use isl_affine::Scope;
-use isl_difference::{append, are_too_many, live_form, outside, references};
+use isl_difference::{live_form, outside, references, share_of, weight_of};
 use isl_meter::{Cut, Meter};
 use isl_piece::{Rows, System, meet, normalise};
 use std::alloc::{AllocError, Global};
@@ -19,6 +19,47 @@ pub(crate) const ROOM: usize = 1_024;
 
 // So many rows more a copied system takes without new memory: mostly one row comes, or both of an interval.
 const MORE_ROWS: usize = 2;
+
+// Whether so many rows over so many columns take more memory than is kept. Their lists, which grow, have room for twice as many.
+fn are_too_heavy(weight: usize, columns: usize) -> bool {
+    isl_difference::are_too_heavy(weight.saturating_mul(2), columns)
+}
+
+// Whether the systems do.
+fn take_too_much(systems: &[System]) -> bool {
+    match systems.last() {
+        Some(last) => are_too_heavy(weight_of(systems), last.columns),
+        None => false,
+    }
+}
+
+// Whether all the systems do, as the others tell; and where there is room for fewer, whether all of them do.
+fn take_too_much_with(systems: &[System], others: &[System], room: usize) -> bool {
+    let Some(last) = others.last() else {
+        return false;
+    };
+    let count = systems.len().saturating_add(others.len());
+    let weight = weight_of(others);
+    if are_too_heavy(share_of(count, weight, others.len()), last.columns) {
+        return true;
+    }
+    room < count && are_too_heavy(weight.saturating_add(weight_of(systems)), last.columns)
+}
+
+/// Puts the other systems behind these. A list alone is as long as it was.
+///
+/// # Errors
+///
+/// `AllocError` where memory ends, or they are too many together.
+pub(crate) fn append(systems: &mut Vec<System>, more: &mut Vec<System>) -> Result<(), AllocError>
+    ensures items { OnOk result (systems.new.items ≡ systems.old.items ++ more.old.items) }
+{
+    let room = systems.capacity();
+    if !systems.is_empty() && take_too_much_with(systems.as_slice(), more.as_slice(), room) {
+        return Err(AllocError);
+    }
+    systems.append(more)
+}
 
 // A copy of the system, with room for some rows more.
 fn roomy_copy(alloc: Global, system: &System) -> Result<System, AllocError>
@@ -82,9 +123,11 @@ fn met_with(alloc: Global, systems: &[System], other: &System) -> Result<Vec<Sys
         → IfOk result (λ met. AreRestricted g g scope systems.now (λ point env. HoldsSystem other.now point) met.items) }
 {
     let mut met = Vec::with_capacity(alloc, systems.len())?;
+    let mut weight = 0usize;
     for system in systems {
         let both = meet(alloc, system, other)?;
-        if are_too_many(met.len(), &both) {
+        weight = weight.saturating_add(both.rows.len()).saturating_add(1);
+        if are_too_heavy(weight, both.columns) {
             return Err(AllocError);
         }
         met.push(both)?;
@@ -226,13 +269,6 @@ fn most_rows(systems: &[System]) -> usize {
         most = most.max(system.rows.len());
     }
     most
-}
-
-// Whether so many systems like the last one take more memory than is kept.
-fn take_too_much(systems: &[System]) -> bool {
-    systems
-        .last()
-        .is_some_and(|system| are_too_many(systems.len(), system))
 }
 
 /// The systems, in their normal form where one of them has passed the room for rows; the room is for twice as many then. No unit is

@@ -10,6 +10,6 @@ mod split;
 
 pub use cover::is_covered;
 pub use difference::{outside, references, subtract};
-pub use lists::{append, are_too_many};
+pub use lists::{append, are_too_heavy, are_too_many, share_of, weight_of};
 pub use live::live_form;
 pub use split::hold_throughout;

@@ -4,8 +4,32 @@ ghost use Rattle.std.specs.Prelude.{◌≡◌, ◌++◌, OnOk};
 
 use crate::later::Later;
 use crate::precedence::Precedence;
-use isl_difference::are_too_many;
+use isl_difference::{are_too_heavy, are_too_many, share_of};
 use std::alloc::AllocError;
+
+// How many rows the precedences have, and one more for each.
+fn weight_of(precedences: &[Precedence]) -> usize {
+    let mut weight = precedences.len();
+    for precedence in precedences {
+        weight = weight.saturating_add(precedence.system.rows.len());
+    }
+    weight
+}
+
+// Whether the rows of all the precedences take more memory than is kept, as those of the others tell; and where there is room for fewer,
+// whether all of them do.
+fn take_too_much(precedences: &[Precedence], others: &[Precedence], room: usize) -> bool {
+    let Some(last) = others.last() else {
+        return false;
+    };
+    let columns = last.system.columns;
+    let count = precedences.len().saturating_add(others.len());
+    let weight = weight_of(others);
+    if are_too_heavy(share_of(count, weight, others.len()), columns) {
+        return true;
+    }
+    room < count && are_too_heavy(weight.saturating_add(weight_of(precedences)), columns)
+}
 
 /// Puts the other precedences behind these.
 ///
@@ -18,11 +42,8 @@ pub(crate) fn append(
 ) -> Result<(), AllocError>
     ensures items { OnOk result (precedences.new.items ≡ precedences.old.items ++ more.old.items) }
 {
-    let count = precedences.len().saturating_add(more.len());
-    if more
-        .last()
-        .is_some_and(|precedence| are_too_many(count, &precedence.system))
-    {
+    let room = precedences.capacity();
+    if take_too_much(precedences.as_slice(), more.as_slice(), room) {
         return Err(AllocError);
     }
     precedences.append(more)

@@ -15,6 +15,7 @@ ghost use Rattle.isl_union.specs.Tame.{size_of, AreOfSizes, IsOfSize};
 ghost use Rattle.isl_union.specs.Union.{AreOfBoth, IsUnionOf};
 
 use crate::aligned::{aligned_pieces, taken_pieces};
+use crate::pieces::append;
 use crate::same::are_same_pieces;
 use crate::{OpFault, Value};
 use isl_meter::Meter;
@@ -34,8 +35,7 @@ fn of_both(own: Vec<Piece>, others: Vec<Piece>) -> Result<Vec<Piece>, AllocError
         return Ok(own);
     }
     let mut pieces = own;
-    let mut others = others;
-    pieces.append(&mut others)?;
+    append(&mut pieces, others)?;
     Ok(pieces)
 }
 
