@@ -59,6 +59,11 @@ impl Fibre {
         Ok(Some(Fibre { tower }))
     }
 
+    /// How many rows are kept of it, and one more for each of the systems that have them.
+    pub fn weight(&self) -> usize {
+        self.tower.weight()
+    }
+
     /// The points of the fibre, without the numbers that they begin with: in lexicographic order, each once. A unit is used for each of
     /// them, and one for each number that is tried.
     ///

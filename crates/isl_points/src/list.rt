@@ -6,8 +6,8 @@ ghost use Rattle.isl_points.specs.Flat.{points_in};
 use std::alloc::{AllocError, Global};
 use std::marker::Model;
 
-// How many numbers have others put behind them: so many take 64 MiB. More count as want of memory, so that memory is bounded as time is.
-const MOST_NUMBERS: usize = 4_194_304;
+// How many numbers have others put behind them: so many take 96 MiB. More count as want of memory, so that memory is bounded as time is.
+const MOST_NUMBERS: usize = 6_291_456;
 
 /// Whether more numbers may be put behind so many.
 ///
@@ -15,7 +15,7 @@ const MOST_NUMBERS: usize = 4_194_304;
 ///
 /// `AllocError` where they are more than are kept.
 pub fn check_count(numbers: usize) -> Result<(), AllocError>
-    ensures { OnOk result (numbers ≤ 4194304) }
+    ensures { OnOk result (numbers ≤ 6291456) }
 {
     if numbers > MOST_NUMBERS {
         return Err(AllocError);

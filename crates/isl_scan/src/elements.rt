@@ -15,19 +15,12 @@ ghost use Rattle.isl_scan.specs.Listing.{IsListingOf};
 
 use crate::group::{Group, merged_groups, weight_of};
 use crate::{Listing, ScanFault};
-use isl_difference::are_too_many;
+use isl_column::are_too_many;
 use isl_meter::{Cut, Meter};
 use isl_piece::Piece;
 use isl_points::{Fibre, check_count};
 use isl_union::Value;
 use std::alloc::Global;
-
-// Whether the towers of so many pieces like this one take more memory than is kept.
-fn have_too_many(fibres: usize, piece: &Piece) -> bool {
-    let system = piece.system();
-    let levels = system.columns.saturating_add(1);
-    are_too_many(fibres.saturating_mul(levels), system)
-}
 
 // The fibres of the pieces over these numbers for the parameters; none where one of the pieces has infinitely many elements there.
 #[tactic(auto, using(std::proofs::lemmas::Grind::common_steps, isl_meter::proofs::CutLemmas::charges))]
@@ -43,12 +36,17 @@ fn fibres_over(
     ensures meter { IsMetered meter.old meter.new result }
 {
     let mut fibres = Vec::with_capacity(alloc, pieces.len())?;
+    let mut weight = 0usize;
     for piece in pieces {
-        if have_too_many(fibres.len(), piece) {
+        let system = piece.system();
+        if are_too_many(weight, &[], system.columns) {
             return Err(Cut::NoMemory);
         }
-        match Fibre::over(alloc, piece.system(), at, meter)? {
-            Some(fibre) => fibres.push(fibre)?,
+        match Fibre::over(alloc, system, at, meter)? {
+            Some(fibre) => {
+                weight = weight.saturating_add(fibre.weight());
+                fibres.push(fibre)?;
+            }
             None => return Ok(None),
         }
     }

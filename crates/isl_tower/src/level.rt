@@ -6,10 +6,11 @@ ghost use Rattle.isl_piece.specs.System.{IsSystemWithin, free_columns};
 ghost use Rattle.isl_tower.specs.Level.{AreOver, AreBelow};
 ghost use Rattle.isl_tower.specs.Tower.{IsProjectionOnto};
 
+use isl_column::are_too_many;
 use isl_elim::eliminate;
 use isl_meter::{Cut, Meter};
 use isl_piece::{System, normalise};
-use std::alloc::{AllocFailed, Global};
+use std::alloc::{AllocError, AllocFailed, Global};
 use std::marker::Model;
 
 /// Systems over the same columns, which together hold where some of them does.
@@ -42,20 +43,35 @@ impl Level {
         self.systems.as_slice()
     }
 
+    // How many rows the systems have, and one more for each.
+    pub(crate) fn weight(&self) -> usize {
+        let mut weight = self.systems.len();
+        for system in self.systems.as_slice() {
+            weight = weight.saturating_add(system.rows.len());
+        }
+        weight
+    }
+
     fn push(&mut self, system: System) -> Result<(), AllocFailed<System>>
         ensures { OnOk result (self.new ≡ self.old ++ system ∷ []) }
     {
         self.systems.push(system)
     }
 
-    // Puts the systems behind these.
-    fn append(&mut self, systems: Vec<System>) -> Result<(), AllocFailed<System>>
+    // Puts the systems behind these. They are as many together as are kept.
+    fn append(&mut self, systems: Vec<System>) -> Result<(), AllocError>
         ensures { OnOk result (self.new ≡ self.old ++ systems.items) }
     {
-        for system in systems {
-            self.push(system)?;
+        let mut systems = systems;
+        let count = self.systems.len().saturating_add(systems.len());
+        if systems.last().is_some_and(|system| are_too_many(
+            count,
+            system.rows.as_slice(),
+            system.columns,
+        )) {
+            return Err(AllocError);
         }
-        Ok(())
+        self.systems.append(&mut systems)
     }
 
     /// The system with its normal rows; nothing where one of its rows holds nowhere.

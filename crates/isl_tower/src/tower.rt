@@ -7,6 +7,7 @@ ghost use Rattle.isl_piece.specs.System.{IsSystemWithin, free_columns};
 ghost use Rattle.isl_tower.specs.Tower.{IsTowerOf};
 
 use crate::level::Level;
+use isl_column::are_too_many;
 use isl_meter::{Cut, Meter};
 use isl_piece::System;
 use std::alloc::Global;
@@ -27,6 +28,15 @@ impl Model for Tower {
     ghost Value = { List (List System) };
 
     ghost view = { λ t. t.levels.items };
+}
+
+// How many rows the systems of the levels have, and one more for each system.
+fn weight_of(levels: &[Level]) -> usize {
+    let mut weight = 0usize;
+    for level in levels {
+        weight = weight.saturating_add(level.weight());
+    }
+    weight
 }
 
 impl Tower {
@@ -54,8 +64,16 @@ impl Tower {
             width -= 1;
             let lower = levels[0].below(alloc, width, meter)?;
             levels.insert(0, lower)?;
+            if are_too_many(weight_of(levels.as_slice()), &[], system.columns) {
+                return Err(Cut::NoMemory);
+            }
         }
         Ok(Tower { levels })
+    }
+
+    /// How many rows its systems have, and one more for each system.
+    pub fn weight(&self) -> usize {
+        weight_of(self.levels.as_slice())
     }
 
     /// The number of levels: one more than the columns behind the outer ones.

@@ -19,7 +19,7 @@ returns-in-None-clause-exact c = λ all.
     let low : i < length pieces = grind (arith, common_steps) in
     let bounded = one_has (λ piece. IsBoundedAt piece.system at) pieces i c.piece-item.result low c.piece-item.is all in
     let none : IsNone c.in_ok-fibre.field-0 = subst (λ (o : Option (List (List System))). IsNone o) (sym c.in-None.is) refl in
-    c.in_ok-fibre.ensures.infinite.0 none (subst (λ (s : System). IsBoundedAt s at) (sym c.system.ensures) bounded)
+    c.in_ok-fibre.ensures.infinite.0 none (subst (λ (s : System). IsBoundedAt s at) (sym c.system-system.ensures) bounded)
 
 pub loop-piece-preserved : goal.loop-piece-preserved
 loop-piece-preserved c =
@@ -31,11 +31,11 @@ loop-piece-preserved c =
     let i = c.loop-piece.piece-index in
     let low : i < length pieces = grind (arith, common_steps) in
     let so_far = c.loop-piece.invariant in
-    let found : IsFibreOf h c.system.result.now at c.in-Some.fibre =
-    subst (λ (o : Option (List (List System))). IfSome o (IsFibreOf h c.system.result.now at)) c.in-Some.is
+    let found : IsFibreOf h c.system-system.result.now at c.in-Some.fibre =
+    subst (λ (o : Option (List (List System))). IfSome o (IsFibreOf h c.system-system.result.now at)) c.in-Some.is
     c.in_ok-fibre.ensures.found in
     let own : IsOverPiece h at piece c.in-Some.fibre =
-    subst (λ (s : System). IsFibreOf h s at c.in-Some.fibre) c.system.ensures found in (
+    subst (λ (s : System). IsFibreOf h s at c.in-Some.fibre) c.system-system.ensures found in (
       fibres_more g at pieces i piece c.loop-piece.fibres.items c.in-Some.fibre c.push.new.self.items low c.piece-item.is so_far.0
           (fibre_kept g h piece.system at c.in-Some.fibre (sym (charged_bits g h so_far.1)) own) c.in_ok-push-in-Some.ensures.items,
       IsCharged_trans g h c.over.new.meter so_far.1 c.in_ok-fibre.ensures.meter,
