@@ -77,6 +77,20 @@ def same_layouts(block):
     )
 
 
+def floors(seed):
+    """Coordinates between floors of the ones before them."""
+    pick = random.Random(seed)
+    names = ["a", "b", "c", "d", "e"]
+    rows = ["0 <= a < 30"]
+    for at, name in enumerate(names[1:], 1):
+        for _ in range(3):
+            for side in ("<=", ">="):
+                terms = " + ".join(f"{pick.randint(1, 5)}{other}" for other in names[:at])
+                slack = f"+ {pick.randint(2, 6)}" if side == "<=" else f"- {pick.randint(2, 6)}"
+                rows.append(f"{name} {side} floor(({terms})/{pick.randint(2, 9)}) {slack}")
+    return "{ [" + ", ".join(names) + "] : " + " and ".join(rows) + " }"
+
+
 def accesses(count):
     """A map of so many pieces that overlap."""
     return "M := { " + "; ".join(f"S[i] -> A[j] : {n} <= i <= {n + 1000} and i <= j <= i + {n}" for n in range(1, count + 1)) + " };"
@@ -112,6 +126,10 @@ ROWS = {
     "fourteen rows over six columns, asked": dense(2, 14, 6) + " = { };",
     "twenty rows over seven columns, sampled": "sample " + dense(1, 20, 7) + ";",
     "fourteen rows over six columns, sampled": "sample " + dense(2, 14, 6) + ";",
+    "fourteen rows over five columns, listed (1)": "scan " + dense(1, 14, 5) + ";",
+    "fourteen rows over five columns, listed (2)": "scan " + dense(3, 14, 5) + ";",
+    "floors of one another, listed (1)": "scan " + floors(1) + ";",
+    "floors of one another, listed (2)": "scan " + floors(2) + ";",
     "outside an interval at 12 coordinates": outside_boxes(12),
     "outside an interval at 16 coordinates": outside_boxes(16),
     "three times 80 slabs": slabs(3, 80),
