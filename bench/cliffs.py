@@ -105,6 +105,25 @@ TESTED = [
     "[a, b, c, d, e] -> { [] : exists (e0: 2d = b and a <= 124 and b <= 2046 and b >= 0 and b <= 60 + 64a and 2e >= b + 2c and 2e >= b and 2e <= 1 + b and 2e <= 1 + b + 2c and 32768e0 >= -124 + a and 2097152e0 <= 60 + 64a - b) };",
 ]
 
+TILES = "{ S[i, j, k] -> [floor(i/16), floor(j/16), floor(k/16), i, j, k] }"
+NEST = "D := [n] -> { S[i, j, k] : 0 <= i, j, k < n }; W := { S[i, j, k] -> A[i, j] } * D; "
+
+
+def nested_sums(count):
+    """So many literals of 4,096 pieces, each in a space of its own; each sum is the right operand of the one before it."""
+    names = [f"x{n}" for n in range(12)]
+    outside = " and ".join(f"({name} < 0 or {name} > 5)" for name in names)
+    literals = [f"{{ S{n}[{', '.join(names)}] : {outside} }}" for n in range(count)]
+    return " + (".join(literals) + ")" * (count - 1) + ";"
+
+
+def joined(count):
+    """Maps of so many pieces, of which all meet, one behind the other."""
+    first = " or ".join(f"(i >= {3 * n} and j >= i + {n} and j <= 5000 + 2i)" for n in range(count))
+    second = " or ".join(f"(i <= {7 * n} and j <= 3i + {n} and j >= {n})" for n in range(count))
+    return f"{{ S[i] -> A[j] : {first} }} . {{ A[i] -> T[j] : {second} }};"
+
+
 PRIMES = [2, 3, 5, 7, 11, 13, 17]
 ROWS = {
     "four bound names, 12 rows (1)": exists4(4),
@@ -136,6 +155,13 @@ ROWS = {
     "1000 times 1000 bounds": "{ [i, j] : exists (a : " + " and ".join(f"a >= i + {n}j and a <= {n}i + j + {n}" for n in range(1000)) + ") };",
     "a bound name, coefficients of a million": "[a, b, c, d, e] -> { [] : exists (k : 2d = b and a <= 124 and 0 <= b <= 2046 and b <= 60 + 64a and 2e >= b + 2c and 2e >= b and 2e <= 1 + b and 2e <= 1 + b + 2c and 1000000k >= a - 124 and 64000000k <= 60 + 64a - b) };",
     "300 times 300 accesses, each before each": accesses(300) + "any M before M under { S[i] -> [i] };",
+    "1500 times 1500 pieces, joined": joined(1500),
+    "tiles in three dimensions, in order": f"T := {TILES}; T << T;",
+    "last under such tiles, bound": NEST + f"T := {TILES}; last W before W under T;",
+    "last under such tiles, written in place": NEST + f"last W before W under {TILES};",
+    "a layout of lines in a cache, and its inverse": "C := { M[x] -> S[floor(x/64) mod 64] }; C . C^-1;",
+    "least element of a dozen rows": "lexmin " + dense(2, 12, 6) + ";",
+    "sums nested to the right": nested_sums(30),
     "20 lines through a point": "{ [i, j] : " + " and ".join(f"i != {n}j" for n in range(20)) + " };",
     "remainder of 1000": "{ [i] : i mod 1000 <= 600 };",
     **{f"a literal of isl's tests ({n + 1})": literal for n, literal in enumerate(TESTED)},
