@@ -1,8 +1,8 @@
 #!/usr/bin/env python3
 """Whether the documents speak of what is there, and how many words they have.
 
-A word that begins an item of docs/DEFINITIONS.md must stand in `specs/` of a crate that the item or its head names. A crate, a path or
-an edit that a page names must be there. Prints each page's words, and what is not there.
+A word that begins an item of docs/DEFINITIONS.md must stand in `specs/` of a crate that the item or its head names. A crate or a path that
+a page names must be there, and docs/EDITS.md names each edit, in the table of its place. Prints each page's words, and what is not there.
 """
 import glob
 import os
@@ -11,7 +11,8 @@ import sys
 
 os.chdir(os.path.join(os.path.dirname(os.path.abspath(__file__)), ".."))
 CRATES = {os.path.basename(folder) for folder in glob.glob("crates/*")}
-EDITS = {os.path.basename(path)[: -len(".edit")] for path in glob.glob("crates/*/must-fail/*.edit")}
+EDITS = [(place, path.split("/")[1], os.path.basename(path)[: -len(".edit")])
+         for place in ("must-fail", "wrong") for path in glob.glob(f"crates/*/{place}/*.edit")]
 
 
 def defined(crate):
@@ -50,6 +51,8 @@ for page in ["README.md", *sorted(glob.glob("docs/*.md"))]:
     if page == "docs/DEFINITIONS.md":
         found += [f"{page}: {what}" for what in missing_words(text)]
     if page == "docs/EDITS.md":
-        found += [f"{page}: no edit {name}" for name in re.findall(r"^\| `(\w+)`", text, re.M) if name not in EDITS]
+        tables = zip(("must-fail", "wrong"), text.split("\n## ")[1:])
+        told = [(place, crate, name) for place, table in tables for name, crate in re.findall(r"^\| `(\w+)` \| `(\w+)`", table, re.M)]
+        found += [f"{page}: {'/'.join(edit)} is not told, or not there" for edit in set(told) ^ set(EDITS)]
 print("\n".join(sorted(set(found))) or "all is there")
 sys.exit(bool(found))
