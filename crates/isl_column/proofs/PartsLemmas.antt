@@ -23,19 +23,21 @@ use Rattle.isl_omega.specs.Equality.{HasEquality}
 use Rattle.isl_omega.specs.Sides.{AreSided}
 use Rattle.isl_omega.specs.declared.shadow.Splinters.{Splinters}
 use Rattle.isl_omega.specs.declared.sides.Sides.{Sides}
-use Rattle.isl_column.specs.Column.{HoldAtSome, HoldAtAny, IsProjectionOf}
-use Rattle.isl_column.specs.DarkShadow.{HoldsDark, HasSplinter, KeepBound, AreSplinters, IsDarkShadow, HoldsDarkShadow, IsTakenOut, IsNoDarkShadow, splinter_count}
-use Rattle.isl_column.specs.Exact.{IsExactColumn, exact_rows, pairs_on}
-use Rattle.isl_column.specs.Magnitude.{AreSmallSplinters, HaveSmallNumbers, HaveOneCongruence}
+use Rattle.isl_shadows.specs.Column.{HoldAtSome, HoldAtAny, IsProjectionOf}
+use Rattle.isl_shadows.specs.Splinters.{HoldsDark, HasSplinter, KeepBound, AreSplinters, splinter_count}
+use Rattle.isl_column.specs.DarkShadow.{IsDarkShadow, HoldsDarkShadow, IsTakenOut, IsNoDarkShadow}
+use Rattle.isl_shadows.specs.Exact.{IsExactColumn, exact_rows, pairs_on}
+use Rattle.isl_shadows.specs.Magnitude.{AreSmallSplinters, HaveSmallNumbers, HaveOneCongruence}
 use Rattle.isl_column.specs.Parts.{PartsView, HoldsPart, count_of, head_count, residues_most, most_units, residues_least, least_units, least_units_of, AreResidues, AreParts, ArePartsOf, IsNextPart, AreNone, IsFoundIn, AreUnitsUpTo, IsHeadAlone, AreSmallParts, AreBegun, IsBegun, IsOpened, IsOpenedFrom, IsNoResidue}
-use Rattle.isl_column.specs.Residue.{HasNumber, residue_units, sides_units}
-use Rattle.isl_column.specs.Solved.{solved_rows}
-use Rattle.isl_column.specs.Units.{elimination_units}
+use Rattle.isl_shadows.specs.Residue.{HasNumber, residue_units, sides_units}
+use Rattle.isl_shadows.specs.Solved.{solved_rows}
+use Rattle.isl_shadows.specs.Units.{elimination_units}
 use Rattle.isl_column.specs.declared.dark_shadow.DarkShadow.{DarkShadow}
 use Rattle.isl_column.specs.declared.residue.Residues.{Residues}
-use Rattle.isl_column.proofs.ResidueLemmas.{sided_kept, residues_none, residues_next, residues_all}
-use Rattle.isl_column.proofs.SplinterLemmas.{rows_proper_kept, shadow_kept, taken_dark, total_not_negative, some_splinters, no_splinters}
-use Rattle.isl_column.proofs.UnitLemmas.{residue_units_positive, sides_units_most}
+use Rattle.isl_shadows.proofs.ResidueLemmas.{sided_kept, residues_none, residues_next, residues_all}
+use Rattle.isl_shadows.proofs.SplinterLemmas.{rows_proper_kept, total_not_negative, some_splinters, no_splinters}
+use Rattle.isl_column.proofs.SplinterLemmas.{shadow_kept, taken_dark}
+use Rattle.isl_shadows.proofs.UnitLemmas.{residue_units_positive, sides_units_most}
 
 -- ---- what is said does not depend on what the meter counted
 -- a meter that was charged has the same limit

@@ -8,10 +8,10 @@ use Rattle.isl_piece.specs.Normal.{IsNormal}
 use Rattle.isl_piece.specs.System.{HoldRows}
 use Rattle.isl_omega.specs.Column.{IsProper}
 use Rattle.isl_omega.specs.Sides.{AreSided}
-use Rattle.isl_column.specs.Column.{HoldAtSome}
-use Rattle.isl_column.specs.DarkShadow.{IsDarkShadow, HoldsDarkShadow, splinter_count}
-use Rattle.isl_column.specs.Magnitude.{IsSmallDarkShadow}
-use Rattle.isl_column.specs.Residue.{IsPeriod, HasResidue, HasResidueBelow, residue_units}
+use Rattle.isl_shadows.specs.Column.{HoldAtSome}
+use Rattle.isl_column.specs.DarkShadow.{IsDarkShadow, HoldsDarkShadow, IsSmallDarkShadow}
+use Rattle.isl_shadows.specs.Splinters.{splinter_count}
+use Rattle.isl_shadows.specs.Residue.{IsPeriod, HasResidue, HasResidueBelow, residue_units}
 use Rattle.isl_column.specs.declared.dark_shadow.DarkShadow.{DarkShadow}
 use Rattle.isl_column.specs.declared.parts.Parts.{Parts}
 use Rattle.isl_column.specs.declared.residue.Residues.{Residues}

@@ -5,8 +5,8 @@ ghost use Rattle.isl_piece.specs.Row.{IsRowWithin, IsRowUpTo};
 ghost use Rattle.isl_meter.specs.Gauge.{IsDone};
 ghost use Rattle.isl_omega.specs.Magnitude.{IsNoOverflow, IsNoOverflowWith, AreSidesUpTo, substituted_magnitude};
 ghost use Rattle.isl_omega.specs.Units.{IsDoneFor};
-ghost use Rattle.isl_column.specs.Magnitude.{IsSmallDarkShadow};
-ghost use Rattle.isl_column.specs.Neighbours.{IsMetWithin};
+ghost use Rattle.isl_column.specs.DarkShadow.{IsSmallDarkShadow};
+ghost use Rattle.isl_shadows.specs.Neighbours.{IsMetWithin};
 
 use crate::mirror::{ask_for_fewer, mirrored_sides};
 use isl_meter::{Cut, Int, Meter};
@@ -28,7 +28,8 @@ pub(crate) struct DarkShadow {
 }
 
 impl DarkShadow {
-    ghost use Rattle.isl_column.specs.DarkShadow.{rows_of, shifted_row, AreShadowsOf, IsDarkShadowWithFewSplinters};
+    ghost use Rattle.isl_shadows.specs.Splinters.{rows_of, shifted_row, AreShadowsOf};
+    ghost use Rattle.isl_column.specs.DarkShadow.{IsDarkShadowWithFewSplinters};
     ghost use Rattle.isl_omega.specs.Sides.{AreSided, IsUpper};
 
     // The rows of all sides but the congruences.

@@ -3,14 +3,14 @@
 ghost use Rattle.std.specs.Prelude.{◌≡◌, ◌≢◌, ◌-◌, ◌≤ℤ◌, ◌+ℤ◌, pos, All, length, IfOk, option_to_list, ◌+◌, ◌≤◌};
 ghost use Rattle.isl_meter.specs.Gauge.{IsMetered};
 ghost use Rattle.isl_piece.specs.Normal.{IsNormal};
-ghost use Rattle.isl_column.specs.Column.{IsProjectionOf};
-ghost use Rattle.isl_column.specs.Exact.{IsExactColumn, exact_rows, pairs_on};
+ghost use Rattle.isl_shadows.specs.Column.{IsProjectionOf};
+ghost use Rattle.isl_shadows.specs.Exact.{IsExactColumn, exact_rows, pairs_on};
 ghost use Rattle.isl_omega.specs.Column.{IsProper};
 ghost use Rattle.isl_omega.specs.Equality.{HasEquality};
-ghost use Rattle.isl_column.specs.Solved.{solved_rows};
-ghost use Rattle.isl_column.specs.Tame.{IsTameColumn};
-ghost use Rattle.isl_column.specs.Units.{elimination_units};
-ghost use Rattle.isl_column.specs.Magnitude.{HaveSmallNumbers, HaveOneCongruence};
+ghost use Rattle.isl_shadows.specs.Solved.{solved_rows};
+ghost use Rattle.isl_shadows.specs.Tame.{IsTameColumn};
+ghost use Rattle.isl_shadows.specs.Units.{elimination_units};
+ghost use Rattle.isl_shadows.specs.Magnitude.{HaveSmallNumbers, HaveOneCongruence};
 
 use crate::lists::push_list;
 use crate::parts::Parts;

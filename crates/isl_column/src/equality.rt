@@ -4,9 +4,9 @@ ghost use Rattle.std.specs.Prelude.{◌≡◌, ◌≢◌, ◌↔◌, ◌-◌, �
 ghost use Rattle.isl_meter.specs.Gauge.{IsDone};
 ghost use Rattle.isl_piece.specs.declared.row.RowKind.TheVariants.{Zero};
 ghost use Rattle.isl_piece.specs.Row.{coef_at};
-ghost use Rattle.isl_column.specs.Column.{HoldAtSome};
-ghost use Rattle.isl_column.specs.Magnitude.{IsSparedAt};
-ghost use Rattle.isl_column.specs.Solved.{solved_rows, IsLeastAmong};
+ghost use Rattle.isl_shadows.specs.Column.{HoldAtSome};
+ghost use Rattle.isl_shadows.specs.Magnitude.{IsSparedAt};
+ghost use Rattle.isl_shadows.specs.Solved.{solved_rows, IsLeastAmong};
 ghost use Rattle.isl_omega.specs.Column.{IsAnswerFor, IsProper};
 ghost use Rattle.isl_omega.specs.Equality.{HasEquality};
 ghost use Rattle.isl_omega.specs.Units.{IsAnsweredFor};

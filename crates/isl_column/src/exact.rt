@@ -3,17 +3,17 @@
 
 ghost use Rattle.std.specs.Prelude.{◌≡◌, ◌↔◌, ◌-◌, ◌∷◌, ◌*◌, ◌^◌, [], All, length, map, IfOk, IsTrue, MatchResult, ◌+◌, ◌≤◌, ◌<◌, ℕ};
 ghost use Rattle.isl_piece.specs.Row.{IsRowWithin};
-ghost use Rattle.isl_column.specs.Column.{HoldAtSome};
+ghost use Rattle.isl_shadows.specs.Column.{HoldAtSome};
 ghost use Rattle.isl_omega.specs.Column.{dropped, IsAnswerFor, IsProper};
 ghost use Rattle.isl_omega.specs.Equality.{HasEquality};
-ghost use Rattle.isl_column.specs.Exact.{IsExactRow, IsExactColumn, real_rows, rows_left, pairs_on, exact_rows, AreAdded};
-ghost use Rattle.isl_column.specs.RealShadow.{HoldReally};
+ghost use Rattle.isl_shadows.specs.Exact.{IsExactRow, IsExactColumn, real_rows, rows_left, pairs_on, exact_rows, AreAdded};
+ghost use Rattle.isl_shadows.specs.RealShadow.{HoldReally};
 ghost use Rattle.isl_omega.specs.Shadow.{real_row};
 ghost use Rattle.isl_omega.specs.Magnitude.{IsNoOverflow, IsRowUpToAt};
 ghost use Rattle.isl_omega.specs.Units.{IsDoneFor, IsAnsweredFor};
-ghost use Rattle.isl_column.specs.Magnitude.{IsSparedAt};
+ghost use Rattle.isl_shadows.specs.Magnitude.{IsSparedAt};
 ghost use Rattle.isl_omega.specs.Sides.{IsLower, IsUpper, on_side};
-ghost use Rattle.isl_column.specs.Units.{elimination_units};
+ghost use Rattle.isl_shadows.specs.Units.{elimination_units};
 ghost use Rattle.isl_meter.specs.Gauge.{IsDone, IsDoneWithin};
 
 use isl_meter::{Cut, Int, Meter};

@@ -1,6 +1,7 @@
 //! Lists of rows, and how many of them are kept.
 
-ghost use Rattle.std.specs.Prelude.{◌≡◌, ◌++◌, ◌∷◌, [], OnOk};
+ghost use Rattle.std.specs.Prelude.{◌≡◌, ◌↔◌, ◌++◌, ◌∷◌, ◌*◌, ◌+◌, [], OnOk, IsTrue, length, min};
+ghost use Rattle.isl_column.specs.Weight.{TakeTooMuch, row_bytes};
 
 use isl_piece::{Row, Rows};
 use std::alloc::AllocError;
@@ -17,7 +18,9 @@ const INLINE: usize = 8;
 const NUMBER_BYTES: usize = 16;
 
 // How many bytes a row over so many columns takes.
-fn row_bytes(columns: usize) -> usize {
+fn row_bytes(columns: usize) -> usize
+    ensures { result ≡ min (row_bytes columns) usize.MAX }
+{
     if columns <= INLINE {
         return ROW_BYTES;
     }
@@ -27,7 +30,9 @@ fn row_bytes(columns: usize) -> usize {
 }
 
 /// Whether so many lists of rows like these, over so many columns, take more memory than is kept.
-pub fn are_too_many(count: usize, rows: &[Row], columns: usize) -> bool {
+pub fn are_too_many(count: usize, rows: &[Row], columns: usize) -> bool
+    ensures { IsTrue result ↔ TakeTooMuch (count * (length rows.now + 1)) columns }
+{
     let of_one = rows.len().saturating_add(1);
     count
         .saturating_mul(of_one)
@@ -41,7 +46,8 @@ pub fn are_too_many(count: usize, rows: &[Row], columns: usize) -> bool {
 ///
 /// `AllocError` where memory ends, or they are too many together.
 pub fn push_list(lists: &mut Vec<Rows>, rows: Rows, columns: usize) -> Result<(), AllocError>
-    ensures { OnOk result (lists.new.items ≡ lists.old.items ++ rows ∷ []) }
+    ensures pushed { OnOk result (lists.new.items ≡ lists.old.items ++ rows ∷ []) }
+    ensures few { OnOk result (¬ TakeTooMuch (length lists.old.items * (length rows + 1)) columns) }
 {
     let mut kept = Vec::from(rows);
     if are_too_many(lists.len(), kept.as_slice(), columns) {

@@ -4,8 +4,8 @@ ghost use Rattle.std.specs.Prelude.{◌≡◌, ◌<ℤ◌, ◌≤ℤ◌, pos, �
 ghost use Rattle.isl_math.specs.Order.{abs_of};
 ghost use Rattle.isl_meter.specs.Gauge.{IsWithin};
 ghost use Rattle.isl_piece.specs.Row.{coef_at};
-ghost use Rattle.isl_column.specs.DarkShadow.{splinter_total};
-ghost use Rattle.isl_column.specs.Mirror.{AskForFewer, mirrored, mirrored_row};
+ghost use Rattle.isl_shadows.specs.Splinters.{splinter_total};
+ghost use Rattle.isl_shadows.specs.Mirror.{AskForFewer, mirrored, mirrored_row};
 ghost use Rattle.isl_omega.specs.Column.{IsProper};
 ghost use Rattle.isl_omega.specs.Shadow.{splinters};
 ghost use Rattle.isl_omega.specs.Sides.{IsLower, IsUpper, AreSided};

@@ -7,7 +7,8 @@ ghost use Rattle.isl_math.specs.Divide.{floor_mod};
 ghost use Rattle.isl_meter.specs.Gauge.{IsWithin};
 ghost use Rattle.isl_omega.specs.Congruence.{product_of_periods};
 ghost use Rattle.isl_omega.specs.Sides.{IsNotDivides};
-ghost use Rattle.isl_column.specs.Neighbours.{IsMetWithin, AreMetAmong, ArePushed, Has, others_than};
+ghost use Rattle.isl_shadows.specs.Neighbours.{IsMetWithin, AreMetAmong, Has, others_than};
+ghost use Rattle.isl_column.specs.Neighbours.{ArePushed};
 
 use crate::residue::period_of;
 use isl_meter::{Int, Meter};

@@ -5,11 +5,11 @@ ghost use Rattle.isl_meter.specs.Gauge.{IsDone, IsMetered};
 ghost use Rattle.isl_omega.specs.Column.{IsProper};
 ghost use Rattle.isl_omega.specs.Equality.{HasEquality};
 ghost use Rattle.isl_omega.specs.Units.{IsDoneFor};
-ghost use Rattle.isl_column.specs.Column.{HoldAtSome};
-ghost use Rattle.isl_column.specs.Exact.{exact_rows, pairs_on};
-ghost use Rattle.isl_column.specs.RealShadow.{IsImplied, bounds_and_free};
-ghost use Rattle.isl_column.specs.Residue.{HasNumber};
-ghost use Rattle.isl_column.specs.Solved.{solved_rows};
+ghost use Rattle.isl_shadows.specs.Column.{HoldAtSome};
+ghost use Rattle.isl_shadows.specs.Exact.{exact_rows, pairs_on};
+ghost use Rattle.isl_shadows.specs.RealShadow.{IsImplied, bounds_and_free};
+ghost use Rattle.isl_shadows.specs.Residue.{HasNumber};
+ghost use Rattle.isl_shadows.specs.Solved.{solved_rows};
 ghost use Rattle.isl_omega.specs.Sides.{AreSided, on_side};
 
 use crate::equality::{equality_at, solved_left};

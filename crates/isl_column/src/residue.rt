@@ -3,8 +3,8 @@
 ghost use Rattle.std.specs.Prelude.{◌≡◌, ◌<◌, ◌<ℤ◌, ◌≤ℤ◌, ◌+ℤ◌, [], pos, All, length, None, IfSome, MatchOption, MatchResult, IfOk, ◌+◌, ◌*◌};
 ghost use Rattle.isl_meter.specs.Gauge.{IsWithin, IsCutUpTo, IsDone, IsDoneWithin};
 ghost use Rattle.isl_omega.specs.Congruence.{period};
-ghost use Rattle.isl_column.specs.DarkShadow.{splinter_count};
-ghost use Rattle.isl_column.specs.Residue.{IsCommonMultiple, IsPeriod, IsResidueOf, residue_units};
+ghost use Rattle.isl_shadows.specs.Splinters.{splinter_count};
+ghost use Rattle.isl_shadows.specs.Residue.{IsCommonMultiple, IsPeriod, IsResidueOf, residue_units};
 ghost use Rattle.isl_omega.specs.Sides.{IsNotDivides, AreSided};
 
 use crate::dark_shadow::DarkShadow;

@@ -2,12 +2,14 @@
 
 ghost use Rattle.std.specs.Prelude.{◌≡◌, ◌↔◌, ◌-◌, ◌<◌, ◌+ℤ◌, ◌-ℤ◌, ◌≤ℤ◌, ◌<ℤ◌, pos, [], All, IfSome, IsTrue, MatchOption, MatchResult, ◌^◌, ◌≤◌, unsigned_abs, ◌+◌, IfOk};
 ghost use Rattle.isl_meter.specs.Gauge.{IsWithin, IsDone, IsDoneWithin};
-ghost use Rattle.isl_column.specs.DarkShadow.{HasValue, AreSplinters, IsDarkShadow, IsSplit, IsTakenOut, IsNoDarkShadow, splinter_count};
+ghost use Rattle.isl_shadows.specs.Splinters.{HasValue, AreSplinters, splinter_count};
+ghost use Rattle.isl_column.specs.DarkShadow.{IsDarkShadow, IsSplit, IsTakenOut, IsNoDarkShadow};
 ghost use Rattle.isl_omega.specs.Column.{IsAnswerFor, IsProper};
 ghost use Rattle.isl_omega.specs.Sides.{IsLower};
 ghost use Rattle.isl_piece.specs.Row.{IsRowUpTo};
 ghost use Rattle.isl_omega.specs.Magnitude.{IsNoOverflow, IsNoOverflowWith, paired_magnitude, substituted_magnitude};
-ghost use Rattle.isl_column.specs.Magnitude.{AreSmallSplinters, IsSmallDarkShadow};
+ghost use Rattle.isl_shadows.specs.Magnitude.{AreSmallSplinters};
+ghost use Rattle.isl_column.specs.DarkShadow.{IsSmallDarkShadow};
 
 use crate::dark_shadow::DarkShadow;
 use isl_meter::{Cut, Int, Meter};

@@ -15,7 +15,7 @@ use Rattle.isl_piece.specs.Normal.{IsNormal}
 use Rattle.isl_piece.specs.Row.{IsWellFormed, IsRowWithin}
 use Rattle.isl_piece.specs.System.{HoldRows}
 use Rattle.isl_piece.proofs.RowMagnitudes.{row_within_kept}
-use Rattle.isl_column.specs.Column.{HoldAtAny}
+use Rattle.isl_shadows.specs.Column.{HoldAtAny}
 use Rattle.isl_omega.specs.Column.{IsProper}
 use Rattle.isl_elim.specs.Elimination.{without, HoldsAlong, AddsAlong}
 use Rattle.isl_simpler.specs.Emptiness.{HoldNowhere}

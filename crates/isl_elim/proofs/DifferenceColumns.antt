@@ -32,10 +32,10 @@ use Rattle.isl_omega.specs.declared.sides.Side.{Side}
 use Rattle.isl_omega.specs.declared.sides.Side.TheVariants.{Lower, Upper, Divides, NotDivides, Free}
 use Rattle.isl_omega.proofs.EqualityLemmas.{AreFactors-from_gcd}
 use Rattle.isl_omega.proofs.SideLemmas.{picked}
-use Rattle.isl_column.specs.Exact.{IsExactRow, IsExactColumn, real_rows, rows_left, exact_rows, pairs_on}
+use Rattle.isl_shadows.specs.Exact.{IsExactRow, IsExactColumn, real_rows, rows_left, exact_rows, pairs_on}
 use Rattle.isl_column.specs.Parts.{PartsView, IsHeadAlone}
-use Rattle.isl_column.specs.Solved.{is_equality, size_at, lesser_of, least_equality, solved_rows}
-use Rattle.isl_column.specs.Tame.{IsTameWithin, IsTameColumn}
+use Rattle.isl_shadows.specs.Solved.{is_equality, size_at, lesser_of, least_equality, solved_rows}
+use Rattle.isl_shadows.specs.Tame.{IsTameWithin, IsTameColumn}
 use Rattle.isl_ledger.specs.Answered.{IsTame}
 use Rattle.isl_ledger.specs.Difference.{IsDifferenceRow}
 use Rattle.isl_ledger.proofs.AnsweredLaws.{answered_more}

@@ -7,7 +7,7 @@ use Rattle.isl_meter.specs.Gauge.{Gauge, IsCharged}
 use Rattle.isl_piece.specs.declared.row.Row.{Row}
 use Rattle.isl_piece.proofs.RowMagnitudes.{row_within_kept}
 use Rattle.isl_omega.specs.Column.{IsProper}
-use Rattle.isl_column.specs.Units.{elimination_units}
+use Rattle.isl_shadows.specs.Units.{elimination_units}
 use Rattle.isl_column.specs.Parts.{PartsView, AreParts, ArePartsOf, IsNextPart, IsFoundIn, AreUnitsUpTo, most_units}
 use Rattle.isl_column.proofs.PartsLemmas.{parts_kept}
 

@@ -16,11 +16,11 @@ use Rattle.isl_piece.specs.declared.system.System.{System}
 use Rattle.isl_piece.specs.Normal.{IsNormal}
 use Rattle.isl_piece.specs.System.{HoldRows, HoldsSystem, IsSystemWithin, free_columns}
 use Rattle.isl_omega.specs.Column.{IsProper}
-use Rattle.isl_column.specs.Column.{HoldAtAny, IsProjectionOf}
-use Rattle.isl_column.specs.Solved.{solved_rows}
-use Rattle.isl_column.specs.Units.{elimination_units}
+use Rattle.isl_shadows.specs.Column.{HoldAtAny, IsProjectionOf}
+use Rattle.isl_shadows.specs.Solved.{solved_rows}
+use Rattle.isl_shadows.specs.Units.{elimination_units}
 use Rattle.isl_omega.specs.Equality.{HasEquality}
-use Rattle.isl_column.proofs.EliminateLemmas.{most_not_negative}
+use Rattle.isl_shadows.proofs.EliminateLemmas.{most_not_negative}
 use Rattle.isl_math.proofs.Ring.{linear}
 use Rattle.isl_elim.specs.Dependents.{dependents, with_dependents, kept_definitions}
 use Rattle.isl_elim.specs.Elimination.{system_of, HoldsAtAny, HoldsAlong, IsProjection, IsProjectionAlong, AddsAlong, without}

@@ -21,7 +21,7 @@ use Rattle.isl_piece.specs.declared.row.Row.{Row}
 use Rattle.isl_piece.specs.Combine.{combination, scaled_divisor}
 use Rattle.isl_piece.specs.Row.{HoldsRow, IsRowWithin, IsWellFormed, coef_at, value_at}
 use Rattle.isl_piece.specs.System.{HoldRows}
-use Rattle.isl_column.proofs.EliminateLemmas.{solved_projects}
+use Rattle.isl_shadows.proofs.EliminateLemmas.{solved_projects}
 use Rattle.isl_omega.specs.Column.{IsProper, dropped}
 use Rattle.isl_omega.specs.Equality.{AreFactors, row_factor, equality_factor, image_of, images_of, short_images_of, solvable}
 use Rattle.isl_omega.specs.Magnitude.{IsNoOverflow, IsRowUpToAt}

@@ -15,9 +15,9 @@ use Rattle.isl_piece.specs.Normal.{IsNormal, normal_rows}
 use Rattle.isl_piece.specs.System.{IsSystemWithin, free_columns}
 use Rattle.isl_redundant.specs.Redundant.{AreSome, IsReduced}
 use Rattle.isl_omega.specs.Equality.{HasEquality}
-use Rattle.isl_column.specs.Exact.{IsExactColumn, exact_rows}
-use Rattle.isl_column.specs.Solved.{solved_rows}
-use Rattle.isl_column.specs.Tame.{IsTameColumn}
+use Rattle.isl_shadows.specs.Exact.{IsExactColumn, exact_rows}
+use Rattle.isl_shadows.specs.Solved.{solved_rows}
+use Rattle.isl_shadows.specs.Tame.{IsTameColumn}
 use Rattle.isl_ledger.specs.Answered.{IsTame}
 use Rattle.isl_ledger.proofs.AnsweredLaws.{answered_more}
 use Rattle.isl_ledger.proofs.NormalDifferences.{normal_differences}

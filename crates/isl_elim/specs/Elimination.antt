@@ -7,7 +7,7 @@ use Rattle.isl_piece.specs.declared.row.Row.{Row}
 use Rattle.isl_piece.specs.declared.system.System.{System}
 use Rattle.isl_piece.specs.Normal.{IsNormal}
 use Rattle.isl_piece.specs.System.{HoldsSystem, IsSystemWithin, free_columns}
-use Rattle.isl_column.specs.Column.{HoldAtAny}
+use Rattle.isl_shadows.specs.Column.{HoldAtAny}
 use Rattle.isl_omega.specs.Column.{IsProper}
 
 -- the elements that stand at none of the columns, in order, where the first stands at the column i

@@ -7,10 +7,10 @@ pub mod Others
 pub mod Sample
 pub mod Solved
 pub mod Tame
-pub use Rattle.isl_column.specs.Column
-pub use Rattle.isl_column.specs.Exact
-pub use Rattle.isl_column.specs.Magnitude
-pub use Rattle.isl_column.specs.Units
+pub use Rattle.isl_shadows.specs.Column
+pub use Rattle.isl_shadows.specs.Exact
+pub use Rattle.isl_shadows.specs.Magnitude
+pub use Rattle.isl_shadows.specs.Units
 pub use Rattle.isl_ledger.specs.Answered
 pub use Rattle.isl_ledger.specs.Work
 pub use Rattle.isl_meter.specs.Gauge

@@ -5,7 +5,7 @@ use Rattle.isl_piece.specs.declared.row.RowKind.TheVariants.{Zero}
 use Rattle.isl_piece.specs.declared.row.Row.{Row}
 use Rattle.isl_piece.specs.Row.{coef_at}
 use Rattle.isl_piece.specs.System.{HoldRows}
-use Rattle.isl_column.specs.Column.{HoldAtSome}
+use Rattle.isl_shadows.specs.Column.{HoldAtSome}
 use Rattle.isl_omega.specs.Column.{IsProper, dropped}
 use Rattle.isl_omega.specs.Equality.{image_of}
 use Rattle.isl_elim.specs.declared.along.Given.{Given}

@@ -4,8 +4,8 @@ ghost use Rattle.std.specs.Prelude.{◌≡◌, ◌↔◌, ◌+◌, ◌*◌, ◌-
 ghost use Rattle.isl_meter.specs.Gauge.{IsCharged, IsCutBy, IsDone, IsMetered};
 ghost use Rattle.isl_piece.specs.Normal.{IsNormal};
 ghost use Rattle.isl_omega.specs.Column.{IsProper};
-ghost use Rattle.isl_column.specs.Units.{elimination_units};
-ghost use Rattle.isl_column.specs.Magnitude.{IsSpared};
+ghost use Rattle.isl_shadows.specs.Units.{elimination_units};
+ghost use Rattle.isl_shadows.specs.Magnitude.{IsSpared};
 ghost use Rattle.isl_omega.specs.Equality.{HasEquality};
 ghost use Rattle.isl_simpler.specs.Emptiness.{HoldNowhere};
 ghost use Rattle.isl_simpler.specs.Shear.{IsReduction};

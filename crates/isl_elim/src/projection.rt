@@ -4,10 +4,10 @@ ghost use Rattle.std.specs.Prelude.{◌≡◌, ◌≢◌, ◌<◌, ◌-◌, ◌+
 ghost use Rattle.isl_meter.specs.Gauge.{IsCharged, IsCutBy, IsMetered};
 ghost use Rattle.isl_piece.specs.Normal.{IsNormal};
 ghost use Rattle.isl_piece.specs.System.{HoldRows, HoldsSystem, IsSystemWithin, free_columns};
-ghost use Rattle.isl_column.specs.Exact.{IsExactColumn, exact_rows};
-ghost use Rattle.isl_column.specs.Magnitude.{HaveSmallNumbers, HaveOneCongruence};
-ghost use Rattle.isl_column.specs.Solved.{solved_rows};
-ghost use Rattle.isl_column.specs.Units.{elimination_units};
+ghost use Rattle.isl_shadows.specs.Exact.{IsExactColumn, exact_rows};
+ghost use Rattle.isl_shadows.specs.Magnitude.{HaveSmallNumbers, HaveOneCongruence};
+ghost use Rattle.isl_shadows.specs.Solved.{solved_rows};
+ghost use Rattle.isl_shadows.specs.Units.{elimination_units};
 ghost use Rattle.isl_omega.specs.Equality.{HasEquality};
 ghost use Rattle.isl_elim.specs.Dependents.{dependents, kept_definitions, with_dependents};
 ghost use Rattle.isl_elim.specs.Elimination.{AddsAlong, IsProjection, IsProjectionAlong, IsReducedSystem, system_of};

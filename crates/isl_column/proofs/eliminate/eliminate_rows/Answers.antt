@@ -2,10 +2,10 @@ use Rattle.std.proofs.Common.{◌≡◌, ◌++◌, ◌∷◌, [], Some, None, Er
 use Rattle.std.proofs.lemmas.Result.{err_from_is_err_and}
 use Rattle.isl_math.proofs.Ring.{linear}
 use Rattle.isl_meter.specs.declared.Cut.TheVariants.{NoMemory}
-use Rattle.isl_column.specs.Exact.{exact_rows}
-use Rattle.isl_column.specs.Solved.{solved_rows}
+use Rattle.isl_shadows.specs.Exact.{exact_rows}
+use Rattle.isl_shadows.specs.Solved.{solved_rows}
 use Rattle.isl_column.proofs.PartsLemmas.{same_limit, answered_first, answered_next, answered_all, answered_units, left_all}
-use Rattle.isl_column.proofs.TameLemmas.{tame_cut, tame_never, tame_ok, tame_used}
+use Rattle.isl_shadows.proofs.TameLemmas.{tame_cut, tame_never, tame_ok, tame_used}
 use Rattle.isl_column.proofs.eliminate.eliminate_rows.Goals as goal
 
 pub loop-answers-init : goal.loop-answers-init

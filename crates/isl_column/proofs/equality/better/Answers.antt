@@ -1,8 +1,8 @@
 use Rattle.std.proofs.Common.{◌≡◌, ◌≤ℤ◌, ◌<ℤ◌, get_or, IfSome, arith}
 use Rattle.isl_math.proofs.Ring.{linear}
 use Rattle.isl_piece.specs.declared.row.Row.{Row}
-use Rattle.isl_column.specs.Solved.{size_at, IsEquality, IsLeastAmong}
-use Rattle.isl_column.proofs.LeastEquality.{found_not, found_kept, found_new, new_none, new_some}
+use Rattle.isl_shadows.specs.Solved.{size_at, IsEquality, IsLeastAmong}
+use Rattle.isl_shadows.proofs.LeastEquality.{found_not, found_kept, found_new, new_none, new_some}
 use Rattle.isl_column.proofs.equality.better.Goals as goal
 use Rattle.isl_column.proofs.equality.better.Goals.{in_default-via-in-None-1, in_default-via-in-Some+else-le}
 

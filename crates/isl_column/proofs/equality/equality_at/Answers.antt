@@ -1,6 +1,6 @@
 use Rattle.std.proofs.Common.{◌≡◌, length, take, arith}
 use Rattle.std.proofs.lemmas.Grind.{common_steps}
-use Rattle.isl_column.proofs.LeastEquality.{IsFound, found_first}
+use Rattle.isl_shadows.proofs.LeastEquality.{IsFound, found_first}
 use Rattle.isl_column.proofs.equality.equality_at.Goals as goal
 
 pub loop-i-init : goal.loop-i-init

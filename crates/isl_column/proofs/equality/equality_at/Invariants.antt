@@ -1,4 +1,4 @@
-use Rattle.isl_column.proofs.LeastEquality.{IsFound}
+use Rattle.isl_shadows.proofs.LeastEquality.{IsFound}
 use Rattle.isl_column.proofs.equality.equality_at.Given as goal
 
 abbrev pub invariant-loop-i : goal.invariant-loop-i

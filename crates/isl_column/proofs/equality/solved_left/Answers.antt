@@ -8,9 +8,9 @@ use Rattle.isl_omega.specs.Equality.{IsSolvedBy, solved_for}
 use Rattle.isl_omega.specs.Magnitude.{IsRowUpToAt}
 use Rattle.isl_omega.proofs.ExactUnits.{answered_cut}
 use Rattle.isl_omega.proofs.ImageLemmas.{answer_same}
-use Rattle.isl_column.specs.Column.{HoldAtSome}
-use Rattle.isl_column.proofs.EliminateLemmas.{solved_projects}
-use Rattle.isl_column.proofs.LeastEquality.{solved_is}
+use Rattle.isl_shadows.specs.Column.{HoldAtSome}
+use Rattle.isl_shadows.proofs.EliminateLemmas.{solved_projects}
+use Rattle.isl_shadows.proofs.LeastEquality.{solved_is}
 use Rattle.isl_column.proofs.equality.solved_left.Goals as goal
 
 pub returns-clause-exact : goal.returns-clause-exact

@@ -1,7 +1,7 @@
 use Rattle.std.proofs.Common.{◌≡◌, take, arith, rules}
 use Rattle.std.proofs.lemmas.Grind.{common_steps}
 use Rattle.std.proofs.lemmas.List.Elements.{All-more}
-use Rattle.isl_column.specs.Exact.{IsExactRow}
+use Rattle.isl_shadows.specs.Exact.{IsExactRow}
 use Rattle.isl_column.proofs.exact.are_exact.Goals as goal
 
 pub loop-row-preserved : goal.loop-row-preserved

@@ -1,8 +1,8 @@
 use Rattle.std.proofs.Common.{◌-◌}
 use Rattle.isl_omega.specs.Column.{IsAnswerFor}
-use Rattle.isl_column.specs.Exact.{pairs_on}
-use Rattle.isl_column.specs.RealShadow.{HoldReally}
-use Rattle.isl_column.proofs.ExactLemmas.{exact_from, at_least_paid}
+use Rattle.isl_shadows.specs.Exact.{pairs_on}
+use Rattle.isl_shadows.specs.RealShadow.{HoldReally}
+use Rattle.isl_shadows.proofs.ExactLemmas.{exact_from, at_least_paid}
 use Rattle.isl_column.proofs.exact.exact_left.Goals as goal
 
 pub returns-clause-exact : goal.returns-clause-exact

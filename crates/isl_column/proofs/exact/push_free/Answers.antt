@@ -1,8 +1,8 @@
 use Rattle.std.proofs.Common.{◌∷◌, [], take, arith}
-use Rattle.isl_column.specs.Exact.{AreAdded}
+use Rattle.isl_shadows.specs.Exact.{AreAdded}
 use Rattle.isl_omega.specs.Sides.{on_side}
 use Rattle.isl_omega.specs.declared.sides.Side.TheVariants.{Free}
-use Rattle.isl_column.proofs.ExactLemmas.{on_side_next, added_more}
+use Rattle.isl_shadows.proofs.ExactLemmas.{on_side_next, added_more}
 use Rattle.isl_column.proofs.exact.push_free.Goals as goal
 
 pub loop-row-preserved : goal.loop-row-preserved

@@ -1,5 +1,5 @@
 use Rattle.std.proofs.Common.{take}
-use Rattle.isl_column.specs.Exact.{AreAdded}
+use Rattle.isl_shadows.specs.Exact.{AreAdded}
 use Rattle.isl_omega.specs.Sides.{on_side}
 use Rattle.isl_omega.specs.declared.sides.Side.TheVariants.{Free}
 use Rattle.isl_column.proofs.exact.push_free.Given as goal

@@ -3,7 +3,7 @@ use Rattle.std.proofs.lemmas.Result.{err_from_is_err_and}
 use Rattle.isl_meter.specs.Gauge.{Gauge, spent_out}
 use Rattle.isl_omega.specs.Units.{paid}
 use Rattle.isl_omega.proofs.ExactUnits.{answered_ok}
-use Rattle.isl_column.proofs.TameLemmas.{answered_behind, answered_memory, answered_refused}
+use Rattle.isl_shadows.proofs.TameLemmas.{answered_behind, answered_memory, answered_refused}
 use Rattle.isl_column.proofs.exact.push_pair.Goals as goal
 
 pub returns-in_err-unit-clause-answered : goal.returns-in_err-unit-clause-answered

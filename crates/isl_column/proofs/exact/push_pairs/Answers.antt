@@ -2,7 +2,7 @@ use Rattle.std.proofs.Common.{◌≡◌, ◌≢◌, ◌*◌, ◌∷◌, [], leng
 use Rattle.std.proofs.lemmas.Grind.{common_steps}
 use Rattle.std.proofs.lemmas.List.{length-append}
 use Rattle.std.proofs.lemmas.Result.{err_from_is_err_and}
-use Rattle.isl_column.specs.Exact.{AreAdded, real_rows}
+use Rattle.isl_shadows.specs.Exact.{AreAdded, real_rows}
 use Rattle.isl_omega.specs.Sides.{on_side}
 use Rattle.isl_meter.specs.Gauge.{IsCutUpTo}
 use Rattle.isl_meter.specs.declared.Cut.TheVariants.{Overflow}
@@ -11,8 +11,8 @@ use Rattle.isl_omega.specs.Units.{paid}
 use Rattle.isl_meter.proofs.UnitLemmas.{charged_bits, charged_share, cut_share}
 use Rattle.isl_omega.specs.declared.sides.Side.TheVariants.{Lower}
 use Rattle.isl_omega.proofs.ExactUnits.{charged_up_to, charged_share_for, answered_ok}
-use Rattle.isl_column.proofs.ExactLemmas.{on_side_next, on_side_room, added_more, added_kept, real_rows-append}
-use Rattle.isl_column.proofs.TameLemmas.{answered_share}
+use Rattle.isl_shadows.proofs.ExactLemmas.{on_side_next, on_side_room, added_more, added_kept, real_rows-append}
+use Rattle.isl_shadows.proofs.TameLemmas.{answered_share}
 use Rattle.isl_column.proofs.exact.push_pairs.Goals as goal
 
 pub returns-in_err-push_lower-clause-exact : goal.returns-in_err-push_lower-clause-exact

@@ -1,5 +1,5 @@
 use Rattle.std.proofs.Common.{◌≡◌, ◌*◌, length, map, take, pos}
-use Rattle.isl_column.specs.Exact.{AreAdded, real_rows}
+use Rattle.isl_shadows.specs.Exact.{AreAdded, real_rows}
 use Rattle.isl_omega.specs.Sides.{on_side}
 use Rattle.isl_meter.specs.Gauge.{IsChargedUpTo}
 use Rattle.isl_omega.specs.declared.sides.Side.TheVariants.{Lower}

@@ -2,7 +2,7 @@ use Rattle.std.proofs.Common.{◌≡◌, ◌≢◌, ◌+◌, ◌<◌, ◌∷◌,
 use Rattle.std.proofs.lemmas.Grind.{common_steps}
 use Rattle.std.proofs.lemmas.List.{map-append}
 use Rattle.std.proofs.lemmas.Result.{err_from_is_err_and}
-use Rattle.isl_column.specs.Exact.{AreAdded}
+use Rattle.isl_shadows.specs.Exact.{AreAdded}
 use Rattle.isl_omega.specs.Shadow.{real_row}
 use Rattle.isl_math.proofs.Ring.{linear}
 use Rattle.isl_meter.specs.Gauge.{IsCutUpTo}
@@ -12,8 +12,8 @@ use Rattle.isl_omega.specs.Sides.{IsUpper}
 use Rattle.isl_omega.specs.Units.{paid}
 use Rattle.isl_meter.proofs.UnitLemmas.{charged_bits, charged_more, cut_after, cut_weaker}
 use Rattle.isl_omega.proofs.ExactUnits.{charged_up_to, charged_sum, answered_ok}
-use Rattle.isl_column.proofs.ExactLemmas.{mapped_next, mapped_one, added_more, added_kept, upper_kept}
-use Rattle.isl_column.proofs.TameLemmas.{answered_behind}
+use Rattle.isl_shadows.proofs.ExactLemmas.{mapped_next, mapped_one, added_more, added_kept, upper_kept}
+use Rattle.isl_shadows.proofs.TameLemmas.{answered_behind}
 use Rattle.isl_column.proofs.exact.push_pairs_of.Goals as goal
 
 pub returns-in_err-push_pair-clause-exact : goal.returns-in_err-push_pair-clause-exact

@@ -1,5 +1,5 @@
 use Rattle.std.proofs.Common.{◌≡◌, map, take, pos}
-use Rattle.isl_column.specs.Exact.{AreAdded}
+use Rattle.isl_shadows.specs.Exact.{AreAdded}
 use Rattle.isl_omega.specs.Shadow.{real_row}
 use Rattle.isl_meter.specs.Gauge.{IsChargedUpTo}
 use Rattle.isl_omega.specs.Units.{paid}

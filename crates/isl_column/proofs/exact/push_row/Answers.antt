@@ -3,7 +3,7 @@ use Rattle.isl_omega.specs.Column.{dropped}
 use Rattle.isl_omega.specs.Sides.{is_same, side_of}
 use Rattle.isl_omega.specs.declared.sides.Side.TheVariants.{Free}
 use Rattle.isl_omega.proofs.ColumnLemmas.{row_within_dropped}
-use Rattle.isl_column.proofs.ExactLemmas.{added_one}
+use Rattle.isl_shadows.proofs.ExactLemmas.{added_one}
 use Rattle.isl_column.proofs.exact.push_row.Goals as goal
 
 pub returns-in_ok-push : goal.returns-in_ok-push

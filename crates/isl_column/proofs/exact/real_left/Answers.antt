@@ -5,17 +5,17 @@ use Rattle.isl_math.proofs.Ring.{linear}
 use Rattle.isl_piece.specs.declared.row.Row.{Row}
 use Rattle.isl_piece.specs.Normal.{normal_rows}
 use Rattle.isl_piece.specs.Row.{IsWellFormed, IsRowWithin}
-use Rattle.isl_column.specs.Exact.{AreAdded, rows_left, pairs_on}
-use Rattle.isl_column.specs.RealShadow.{HoldReally}
+use Rattle.isl_shadows.specs.Exact.{AreAdded, rows_left, pairs_on}
+use Rattle.isl_shadows.specs.RealShadow.{HoldReally}
 use Rattle.isl_meter.specs.Gauge.{IsChargedUpTo}
 use Rattle.isl_meter.proofs.UnitLemmas.{charged_bits, memory_late}
 use Rattle.isl_omega.specs.Units.{paid}
 use Rattle.isl_omega.proofs.ExactUnits.{charged_up_to, answered_ok}
 use Rattle.isl_omega.proofs.ColumnLemmas.{moduli_of}
 use Rattle.isl_piece.proofs.RowMagnitudes.{rows_within_kept}
-use Rattle.isl_column.proofs.ExactLemmas.{exact_short, real_answer}
-use Rattle.isl_column.proofs.SplinterLemmas.{answer_kept}
-use Rattle.isl_column.proofs.TameLemmas.{answered_cut_same, answered_memory}
+use Rattle.isl_shadows.proofs.ExactLemmas.{exact_short, real_answer}
+use Rattle.isl_shadows.proofs.SplinterLemmas.{answer_kept}
+use Rattle.isl_shadows.proofs.TameLemmas.{answered_cut_same, answered_memory}
 use Rattle.isl_column.proofs.exact.real_left.Goals as goal
 
 pub normalise-requires-clause-moduli : goal.normalise-requires-clause-moduli

@@ -3,7 +3,7 @@ use Rattle.std.proofs.lemmas.Result.{err_from_is_err_and}
 use Rattle.isl_meter.specs.Gauge.{Gauge}
 use Rattle.isl_piece.specs.Row.{coef_at}
 use Rattle.isl_math.proofs.MagnitudeLaws.{up_to-neg}
-use Rattle.isl_column.proofs.TameLemmas.{answered_cut_same}
+use Rattle.isl_shadows.proofs.TameLemmas.{answered_cut_same}
 use Rattle.isl_column.proofs.exact.real_row_without.Goals as goal
 
 pub returns-in_err-coefs-clause-no_overflow : goal.returns-in_err-coefs-clause-no_overflow

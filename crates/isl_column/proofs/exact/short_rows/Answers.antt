@@ -5,13 +5,13 @@ use Rattle.std.proofs.lemmas.List.Elements.{All-filter}
 use Rattle.isl_meter.specs.declared.Cut.TheVariants.{Overflow}
 use Rattle.isl_omega.specs.Magnitude.{IsRowUpToAt}
 use Rattle.isl_piece.specs.declared.row.Row.{Row}
-use Rattle.isl_column.specs.Exact.{AreAdded, pairs_on, real_rows}
+use Rattle.isl_shadows.specs.Exact.{AreAdded, pairs_on, real_rows}
 use Rattle.isl_omega.specs.Units.{paid}
 use Rattle.isl_omega.specs.Sides.{is_same, on_side, side_of}
 use Rattle.isl_omega.specs.declared.sides.Side.TheVariants.{Lower, Upper, Free}
-use Rattle.isl_column.proofs.ExactLemmas.{added_more, uppers_are}
+use Rattle.isl_shadows.proofs.ExactLemmas.{added_more, uppers_are}
 use Rattle.isl_omega.proofs.ExactUnits.{answered_ok}
-use Rattle.isl_column.proofs.TameLemmas.{answered_cut_same}
+use Rattle.isl_shadows.proofs.TameLemmas.{answered_cut_same}
 use Rattle.isl_column.proofs.exact.short_rows.Goals as goal
 
 pub returns-clause-exact : goal.returns-clause-exact

@@ -5,7 +5,7 @@ use Rattle.isl_piece.specs.declared.row.Row.{Row}
 use Rattle.isl_piece.specs.Row.{coef_at}
 use Rattle.isl_omega.specs.Shadow.{splinters}
 use Rattle.isl_omega.specs.Sides.{IsUpper}
-use Rattle.isl_column.proofs.MirrorLaws.{left_more, less_within}
+use Rattle.isl_shadows.proofs.MirrorLaws.{left_more, less_within}
 use Rattle.isl_column.proofs.mirror.ask_for_at_most.Goals as goal
 
 pub loop-upper-preserved : goal.loop-upper-preserved

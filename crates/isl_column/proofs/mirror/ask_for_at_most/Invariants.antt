@@ -1,7 +1,7 @@
 use Rattle.std.proofs.Common.{◌≡◌, pos, ◌≤ℤ◌, ◌+ℤ◌, take, map}
 use Rattle.isl_meter.specs.Gauge.{IsWithin}
-use Rattle.isl_column.specs.DarkShadow.{splinter_total}
-use Rattle.isl_column.specs.Mirror.{mirrored_row}
+use Rattle.isl_shadows.specs.Splinters.{splinter_total}
+use Rattle.isl_shadows.specs.Mirror.{mirrored_row}
 use Rattle.isl_column.proofs.mirror.ask_for_at_most.Given as goal
 
 abbrev pub invariant-loop-upper : goal.invariant-loop-upper

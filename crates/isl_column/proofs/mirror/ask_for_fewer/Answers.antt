@@ -4,9 +4,9 @@ use Rattle.std.proofs.lemmas.Grind.{common_steps}
 use Rattle.isl_math.specs.Order.{abs_of}
 use Rattle.isl_piece.specs.declared.row.Row.{Row}
 use Rattle.isl_piece.specs.Row.{coef_at}
-use Rattle.isl_column.specs.DarkShadow.{splinter_total}
-use Rattle.isl_column.specs.Mirror.{AskForFewer, mirrored_row}
-use Rattle.isl_column.proofs.MirrorLaws.{fewer_from, sure_more}
+use Rattle.isl_shadows.specs.Splinters.{splinter_total}
+use Rattle.isl_shadows.specs.Mirror.{AskForFewer, mirrored_row}
+use Rattle.isl_shadows.proofs.MirrorLaws.{fewer_from, sure_more}
 use Rattle.isl_column.proofs.mirror.ask_for_fewer.Goals as goal
 
 pub returns : goal.returns

@@ -5,7 +5,7 @@ use Rattle.std.proofs.lemmas.List.{take_more, take_all}
 use Rattle.isl_math.specs.Order.{abs_of}
 use Rattle.isl_piece.specs.declared.row.Row.{Row}
 use Rattle.isl_piece.specs.Row.{coef_at}
-use Rattle.isl_column.proofs.MirrorLaws.{greatest_more}
+use Rattle.isl_shadows.proofs.MirrorLaws.{greatest_more}
 use Rattle.isl_column.proofs.mirror.greatest_factor.Goals as goal
 use Rattle.isl_column.proofs.mirror.greatest_factor.Goals.{then-lt, else-lt}
 

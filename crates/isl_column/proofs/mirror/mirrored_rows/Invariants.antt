@@ -1,5 +1,5 @@
 use Rattle.std.proofs.Common.{◌≡◌, take, map}
-use Rattle.isl_column.specs.Mirror.{mirrored_row}
+use Rattle.isl_shadows.specs.Mirror.{mirrored_row}
 use Rattle.isl_column.proofs.mirror.mirrored_rows.Given as goal
 
 abbrev pub invariant-loop-row : goal.invariant-loop-row

@@ -7,7 +7,7 @@ use Rattle.isl_piece.specs.Row.{coef_at}
 use Rattle.isl_meter.specs.Gauge.{IsWithin}
 use Rattle.isl_omega.specs.Shadow.{splinters}
 use Rattle.isl_omega.specs.Sides.{IsLower}
-use Rattle.isl_column.proofs.MirrorLaws.{most_more}
+use Rattle.isl_shadows.proofs.MirrorLaws.{most_more}
 use Rattle.isl_column.proofs.mirror.most_splinters.Goals as goal
 use Rattle.isl_column.proofs.mirror.most_splinters.Goals.{then-lt, else-lt}
 

@@ -1,6 +1,6 @@
 use Rattle.std.proofs.Common.{◌≡◌, pos, ◌≤ℤ◌, take}
 use Rattle.isl_meter.specs.Gauge.{IsWithin}
-use Rattle.isl_column.specs.DarkShadow.{splinter_total}
+use Rattle.isl_shadows.specs.Splinters.{splinter_total}
 use Rattle.isl_column.proofs.mirror.most_splinters.Given as goal
 
 abbrev pub invariant-loop-lower : goal.invariant-loop-lower

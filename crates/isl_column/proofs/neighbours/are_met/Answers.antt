@@ -4,8 +4,10 @@ use Rattle.std.proofs.lemmas.List.{drop_all}
 use Rattle.isl_piece.specs.declared.row.Row.{Row}
 use Rattle.isl_omega.specs.Congruence.{period}
 use Rattle.isl_omega.specs.Sides.{IsNotDivides}
-use Rattle.isl_column.specs.Neighbours.{AreMetAmong, ArePushed, AreEnough}
-use Rattle.isl_column.proofs.SearchLemmas.{enough_as_met, enough_with, enough_without, drop_row}
+use Rattle.isl_shadows.specs.Neighbours.{AreMetAmong}
+use Rattle.isl_column.specs.Neighbours.{ArePushed, AreEnough}
+use Rattle.isl_column.proofs.SearchLemmas.{enough_as_met, enough_with, enough_without}
+use Rattle.isl_shadows.proofs.SearchLemmas.{drop_row}
 use Rattle.isl_column.proofs.neighbours.are_met.Goals as goal
 use Rattle.isl_column.proofs.neighbours.are_met.Goals.{then-choice-rows+in_ok-leaves+then-not-leaves+in_ok-push_choices, then-choice-rows+in_ok-leaves+else-not-leaves, else-choice-rows}
 

@@ -5,8 +5,8 @@ use Rattle.std.proofs.lemmas.List.{take_more}
 use Rattle.std.proofs.lemmas.List.Elements.{All-push}
 use Rattle.isl_piece.specs.declared.row.Row.{Row}
 use Rattle.isl_omega.specs.Sides.{IsNotDivides}
-use Rattle.isl_column.specs.Neighbours.{Has}
-use Rattle.isl_column.proofs.CountLemmas.{has_put, has_new, all_put}
+use Rattle.isl_shadows.specs.Neighbours.{Has}
+use Rattle.isl_shadows.proofs.CountLemmas.{has_put, has_new, all_put}
 use Rattle.isl_column.proofs.neighbours.by_period.Goals as goal
 
 pub loop-row-preserved : goal.loop-row-preserved

@@ -5,7 +5,7 @@ use Rattle.isl_math.specs.Divide.{floor_div}
 use Rattle.isl_piece.specs.declared.row.Row.{Row}
 use Rattle.isl_omega.specs.Congruence.{period}
 use Rattle.isl_omega.specs.Sides.{IsNotDivides}
-use Rattle.isl_column.proofs.SearchLemmas.{left_none, left_more, left_below}
+use Rattle.isl_shadows.proofs.SearchLemmas.{left_none, left_more, left_below}
 use Rattle.isl_column.proofs.neighbours.is_below_periods.Goals as goal
 
 pub loop-row-init : goal.loop-row-init

@@ -1,5 +1,5 @@
 use Rattle.std.proofs.Common.{take}
-use Rattle.isl_column.proofs.SearchLemmas.{IsLeft}
+use Rattle.isl_shadows.proofs.SearchLemmas.{IsLeft}
 use Rattle.isl_column.proofs.neighbours.is_below_periods.Given as goal
 
 abbrev pub invariant-loop-row : goal.invariant-loop-row

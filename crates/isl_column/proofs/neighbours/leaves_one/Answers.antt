@@ -5,7 +5,7 @@ use Rattle.isl_math.specs.Divide.{floor_mod}
 use Rattle.isl_piece.specs.declared.row.Row.{Row}
 use Rattle.isl_omega.specs.Congruence.{period}
 use Rattle.isl_omega.specs.Sides.{IsNotDivides}
-use Rattle.isl_column.proofs.CountLemmas.{AreAtMost, left_of_all, left_behind, met_as_left}
+use Rattle.isl_shadows.proofs.CountLemmas.{AreAtMost, left_of_all, left_behind, met_as_left}
 use Rattle.isl_column.proofs.neighbours.leaves_one.Goals as goal
 
 pub loop-row-init : goal.loop-row-init

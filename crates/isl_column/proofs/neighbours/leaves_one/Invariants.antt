@@ -1,5 +1,5 @@
 use Rattle.std.proofs.Common.{take}
-use Rattle.isl_column.proofs.CountLemmas.{AreLeft}
+use Rattle.isl_shadows.proofs.CountLemmas.{AreLeft}
 use Rattle.isl_column.proofs.neighbours.leaves_one.Given as goal
 
 abbrev pub invariant-loop-row : goal.invariant-loop-row

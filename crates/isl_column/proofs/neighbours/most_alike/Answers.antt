@@ -3,7 +3,7 @@ use Rattle.std.specs.List.{filter}
 use Rattle.std.specs.Ordering.{int_eq}
 use Rattle.std.proofs.lemmas.Grind.{common_steps}
 use Rattle.std.proofs.lemmas.List.{take_more}
-use Rattle.isl_column.proofs.CountLemmas.{most_more}
+use Rattle.isl_shadows.proofs.CountLemmas.{most_more}
 use Rattle.isl_column.proofs.neighbours.most_alike.Goals as goal
 
 pub loop-number-preserved : goal.loop-number-preserved

@@ -1,5 +1,5 @@
 use Rattle.std.proofs.Common.{take}
-use Rattle.isl_column.proofs.CountLemmas.{AreAtMost}
+use Rattle.isl_shadows.proofs.CountLemmas.{AreAtMost}
 use Rattle.isl_column.proofs.neighbours.most_alike.Given as goal
 
 abbrev pub invariant-loop-number : goal.invariant-loop-number

@@ -2,9 +2,9 @@ use Rattle.std.proofs.Common.{◌≡◌, ◌+◌, pos, ◌≤ℤ◌, ◌<ℤ◌,
 use Rattle.std.specs.List.{All}
 use Rattle.std.proofs.lemmas.Grind.{common_steps}
 use Rattle.isl_piece.specs.declared.row.Row.{Row}
-use Rattle.isl_column.specs.Neighbours.{AreMetAmong, Has}
-use Rattle.isl_column.proofs.CountLemmas.{met_in_order}
-use Rattle.isl_column.proofs.SearchLemmas.{met_within}
+use Rattle.isl_shadows.specs.Neighbours.{AreMetAmong, Has}
+use Rattle.isl_shadows.proofs.CountLemmas.{met_in_order}
+use Rattle.isl_shadows.proofs.SearchLemmas.{met_within}
 use Rattle.isl_column.proofs.neighbours.neighbours_for.Goals as goal
 
 pub returns-in-Met-clause-met : goal.returns-in-Met-clause-met

@@ -1,6 +1,6 @@
 use Rattle.std.proofs.Common.{◌≡◌, [], length, arith}
 use Rattle.std.proofs.lemmas.Grind.{common_steps}
-use Rattle.isl_column.proofs.SearchLemmas.{met_empty, met_alone}
+use Rattle.isl_shadows.proofs.SearchLemmas.{met_empty, met_alone}
 use Rattle.isl_column.proofs.neighbours.neighbours_of.Goals as goal
 
 pub returns-then-is_empty-clause-met : goal.returns-then-is_empty-clause-met

@@ -1,5 +1,5 @@
 use Rattle.std.proofs.Common.{◌≡◌, take}
-use Rattle.isl_column.specs.Neighbours.{others_than}
+use Rattle.isl_shadows.specs.Neighbours.{others_than}
 use Rattle.isl_column.proofs.neighbours.others_than.Given as goal
 
 abbrev pub invariant-loop-other : goal.invariant-loop-other

@@ -3,7 +3,7 @@ use Rattle.std.specs.List.{Any}
 use Rattle.std.proofs.lemmas.Grind.{common_steps}
 use Rattle.std.proofs.lemmas.List.{take_more}
 use Rattle.isl_math.specs.Divide.{floor_mod}
-use Rattle.isl_column.specs.Neighbours.{others_than}
+use Rattle.isl_shadows.specs.Neighbours.{others_than}
 use Rattle.isl_column.specs.declared.neighbours.Choice.{Choice}
 use Rattle.isl_column.proofs.SearchLemmas.{pushed_none, pushed_more, pushed_alike}
 use Rattle.isl_column.proofs.neighbours.push_choices.Goals as goal

@@ -1,5 +1,5 @@
 use Rattle.std.proofs.Common.{◌≡◌, [], refl, arith}
-use Rattle.isl_column.proofs.EliminateLemmas.{step_none}
+use Rattle.isl_shadows.proofs.EliminateLemmas.{step_none}
 use Rattle.isl_column.proofs.parts.without_congruences.Goals as goal
 
 pub returns-then-is_empty-clause-exact : goal.returns-then-is_empty-clause-exact

@@ -1,7 +1,7 @@
 use Rattle.std.proofs.Common.{arith}
 use Rattle.isl_omega.specs.Sides.{AreSidesOf}
 use Rattle.isl_omega.proofs.SideLemmas.{sides_are}
-use Rattle.isl_column.proofs.RealShadowLemmas.{shadow_from_rows, shadow_from_sides}
+use Rattle.isl_shadows.proofs.RealShadowLemmas.{shadow_from_rows, shadow_from_sides}
 use Rattle.isl_column.proofs.real.bounds_shadow.Goals as goal
 
 pub returns-then-is_empty-clause-exact : goal.returns-then-is_empty-clause-exact

@@ -1,12 +1,12 @@
 use Rattle.std.proofs.Common.{◌-◌, length, arith}
 use Rattle.isl_omega.specs.Column.{IsAnswerFor}
-use Rattle.isl_column.specs.Column.{HoldAtSome}
-use Rattle.isl_column.specs.Exact.{pairs_on}
-use Rattle.isl_column.specs.RealShadow.{IsImplied}
-use Rattle.isl_column.specs.Solved.{IsLeastAmong, solved_rows}
-use Rattle.isl_column.proofs.EliminateLemmas.{equality_from}
-use Rattle.isl_column.proofs.LeastEquality.{least_equality_at}
-use Rattle.isl_column.proofs.RealShadowLemmas.{implied_after, metered_after, metered_done, paid_after, solved_done, solved_implies}
+use Rattle.isl_shadows.specs.Column.{HoldAtSome}
+use Rattle.isl_shadows.specs.Exact.{pairs_on}
+use Rattle.isl_shadows.specs.RealShadow.{IsImplied}
+use Rattle.isl_shadows.specs.Solved.{IsLeastAmong, solved_rows}
+use Rattle.isl_shadows.proofs.EliminateLemmas.{equality_from}
+use Rattle.isl_shadows.proofs.LeastEquality.{least_equality_at}
+use Rattle.isl_shadows.proofs.RealShadowLemmas.{implied_after, metered_after, metered_done, paid_after, solved_done, solved_implies}
 use Rattle.isl_column.proofs.real.real_shadow.Goals as goal
 
 pub returns-in-Some-clause-implied : goal.returns-in-Some-clause-implied

@@ -1,7 +1,7 @@
 use Rattle.std.proofs.Common.{◌≡◌, arith}
 use Rattle.isl_omega.specs.Step.{IsStepOf}
-use Rattle.isl_column.specs.RealShadow.{bounds_and_free}
-use Rattle.isl_column.proofs.RealShadowLemmas.{substituted_from, substituted_ready}
+use Rattle.isl_shadows.specs.RealShadow.{bounds_and_free}
+use Rattle.isl_shadows.proofs.RealShadowLemmas.{substituted_from, substituted_ready}
 use Rattle.isl_column.proofs.real.substituted_shadow.Goals as goal
 
 pub real_left-requires : goal.real_left-requires

@@ -1,5 +1,5 @@
 use Rattle.std.proofs.Common.{◌≡◌, ◌*ℤ◌, arith}
-use Rattle.isl_column.proofs.CommonPeriods.{common_multiple_is}
+use Rattle.isl_shadows.proofs.CommonPeriods.{common_multiple_is}
 use Rattle.isl_column.proofs.residue.common_multiple.Goals as goal
 
 pub returns : goal.returns

@@ -3,10 +3,10 @@ use Rattle.std.proofs.lemmas.Grind.{common_steps}
 use Rattle.std.proofs.lemmas.List.{take_more}
 use Rattle.isl_piece.specs.declared.row.Row.{Row}
 use Rattle.isl_omega.specs.Congruence.{period}
-use Rattle.isl_column.specs.Residue.{IsCommonMultiple}
+use Rattle.isl_shadows.specs.Residue.{IsCommonMultiple}
 use Rattle.isl_omega.specs.Sides.{IsNotDivides}
 use Rattle.isl_omega.proofs.MergeLemmas.{take_one}
-use Rattle.isl_column.proofs.CommonPeriods.{period_one, period_more}
+use Rattle.isl_shadows.proofs.CommonPeriods.{period_one, period_more}
 use Rattle.isl_piece.proofs.RowLemmas.{HasModulus-positive}
 use Rattle.isl_column.proofs.residue.common_period.Goals as goal
 

@@ -1,6 +1,6 @@
 use Rattle.std.proofs.Common.{◌≡◌, ◌≤◌, take}
 use Rattle.isl_meter.specs.Gauge.{IsWithin}
-use Rattle.isl_column.specs.Residue.{IsPeriod}
+use Rattle.isl_shadows.specs.Residue.{IsPeriod}
 use Rattle.isl_column.proofs.residue.common_period.Given as goal
 
 abbrev pub invariant-loop-i : goal.invariant-loop-i

@@ -1,11 +1,11 @@
 use Rattle.std.proofs.Common.{◌≡◌, ◌-◌, ◌∙◌, ap, arith, ◌^◌, lit<}
 use Rattle.isl_omega.specs.Column.{IsAnswerFor}
 use Rattle.isl_omega.specs.Equality.{IsSolvedBy}
-use Rattle.isl_column.proofs.SplinterLemmas.{lowered_by, splinter_is}
+use Rattle.isl_shadows.proofs.SplinterLemmas.{lowered_by, splinter_is}
 use Rattle.std.proofs.lemmas.Result.{err_from_is_err_and}
 use Rattle.isl_meter.specs.Gauge.{Gauge}
 use Rattle.isl_omega.proofs.SmallLemmas.{row_up_to_at, rows_up_to_at}
-use Rattle.isl_column.proofs.SmallSplinters.{lowered_up_to}
+use Rattle.isl_shadows.proofs.SmallSplinters.{lowered_up_to}
 use Rattle.isl_column.proofs.splinters.splinter.Goals as goal
 
 pub returns-clause-exact : goal.returns-clause-exact

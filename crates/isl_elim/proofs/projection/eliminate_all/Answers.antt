@@ -6,8 +6,8 @@ use Rattle.isl_ledger.specs.Work.{AreOfSize, drop_size}
 use Rattle.isl_elim.specs.Tame.{AreFewDifferences}
 use Rattle.isl_elim.proofs.TameLaws.{tame_ok, tame_memory, tame_cut}
 use Rattle.isl_elim.proofs.TameSystems.{plain_of_one, gone_plain, room_left, units_left, size_dropped}
-use Rattle.isl_column.specs.Exact.{exact_rows}
-use Rattle.isl_column.specs.Solved.{solved_rows}
+use Rattle.isl_shadows.specs.Exact.{exact_rows}
+use Rattle.isl_shadows.specs.Solved.{solved_rows}
 use Rattle.isl_piece.specs.System.{free_columns}
 use Rattle.isl_elim.specs.Dependents.{with_dependents, kept_definitions}
 use Rattle.isl_elim.specs.Elimination.{system_of}

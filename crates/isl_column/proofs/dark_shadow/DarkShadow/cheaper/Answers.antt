@@ -1,9 +1,10 @@
 use Rattle.std.proofs.Common.{◌≡◌, [], arith}
 use Rattle.std.proofs.lemmas.Grind.{common_steps}
 use Rattle.isl_omega.specs.Magnitude.{substituted_magnitude}
-use Rattle.isl_column.specs.Mirror.{AskForFewer, mirrored}
-use Rattle.isl_column.proofs.SearchLemmas.{met_none}
-use Rattle.isl_column.proofs.MirrorLaws.{mirrored_done, sided_mirrored, up_to_mirrored_sides}
+use Rattle.isl_shadows.specs.Mirror.{AskForFewer, mirrored}
+use Rattle.isl_shadows.proofs.SearchLemmas.{met_none}
+use Rattle.isl_column.proofs.DarkShadowLemmas.{mirrored_done}
+use Rattle.isl_shadows.proofs.MirrorLaws.{sided_mirrored, up_to_mirrored_sides}
 use Rattle.isl_column.proofs.dark_shadow.DarkShadow.cheaper.Goals as goal
 
 pub closed-requires-clause-sided : goal.closed-requires-clause-sided

@@ -1,15 +1,16 @@
 use Rattle.std.proofs.Common.{◌≡◌, ◌-◌, ◌++◌, ◌*◌, length, pos, sym, arith, ◌^◌}
 use Rattle.std.proofs.lemmas.List.Elements.{All-weaker}
 use Rattle.isl_piece.specs.Row.{IsWellFormed, IsRowWithin}
-use Rattle.isl_column.specs.DarkShadow.{rows_of}
+use Rattle.isl_shadows.specs.Splinters.{rows_of}
 use Rattle.isl_omega.specs.Column.{HoldAt, IsAnswerFor, IsProper}
 use Rattle.isl_column.specs.declared.dark_shadow.DarkShadow.{DarkShadow}
-use Rattle.isl_column.proofs.SplinterLemmas.{answer_kept}
-use Rattle.isl_column.proofs.DarkShadowLemmas.{closed_from, closed_is, left_rows}
+use Rattle.isl_shadows.proofs.SplinterLemmas.{answer_kept}
+use Rattle.isl_shadows.proofs.DarkShadowLemmas.{closed_from, left_rows}
+use Rattle.isl_column.proofs.DarkShadowLemmas.{closed_is}
 use Rattle.isl_meter.proofs.UnitLemmas.{charged_bits}
 use Rattle.isl_omega.proofs.ExactUnits.{charged_up_to}
 use Rattle.isl_piece.proofs.RowMagnitudes.{rows_within_kept}
-use Rattle.isl_column.proofs.SmallSplinters.{rows_small, shadows_small}
+use Rattle.isl_shadows.proofs.SmallSplinters.{rows_small, shadows_small}
 use Rattle.isl_column.proofs.dark_shadow.DarkShadow.closed.Goals as goal
 
 pub returns-clause-exact : goal.returns-clause-exact

@@ -3,10 +3,11 @@ use Rattle.isl_math.proofs.Ring.{linear}
 use Rattle.isl_meter.specs.declared.Cut.TheVariants.{Overflow}
 use Rattle.isl_meter.specs.Gauge.{IsCutUpTo}
 use Rattle.isl_meter.proofs.UnitLemmas.{charged_same, charged_weaker}
-use Rattle.isl_column.specs.DarkShadow.{splinter_count}
-use Rattle.isl_column.specs.Magnitude.{IsSmallDarkShadow}
+use Rattle.isl_shadows.specs.Splinters.{splinter_count}
+use Rattle.isl_column.specs.DarkShadow.{IsSmallDarkShadow}
 use Rattle.isl_column.specs.declared.dark_shadow.DarkShadow.{DarkShadow}
-use Rattle.isl_column.proofs.SplinterLemmas.{IsPopped, IsBuilt, no_end, same_bits, tail_at, total_not_negative, taken_dark, popped_tail, popped_small, popped_fewer, so_far_skipped, built_kept, built_none, built_found, built_charged, built_cut, built_fewer, any_some}
+use Rattle.isl_column.proofs.SplinterLemmas.{IsPopped, IsBuilt, taken_dark, popped_tail, popped_small, popped_fewer, so_far_skipped, built_kept, built_none, built_found, built_charged, built_cut, built_fewer}
+use Rattle.isl_shadows.proofs.SplinterLemmas.{no_end, same_bits, tail_at, total_not_negative, any_some}
 use Rattle.isl_column.proofs.dark_shadow.DarkShadow.next.Goals as goal
 
 pub returns-in-Some-clause-exact : goal.returns-in-Some-clause-exact

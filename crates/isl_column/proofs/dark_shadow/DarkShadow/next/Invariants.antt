@@ -1,5 +1,5 @@
 use Rattle.std.proofs.Common.{◌+◌, length, unsigned_abs}
-use Rattle.isl_column.specs.DarkShadow.{splinter_count}
+use Rattle.isl_shadows.specs.Splinters.{splinter_count}
 use Rattle.isl_column.proofs.SplinterLemmas.{IsShadowSoFar}
 use Rattle.isl_column.proofs.dark_shadow.DarkShadow.next.Given as goal
 

@@ -1,11 +1,11 @@
 use Rattle.std.proofs.Common.{◌≡◌, ◌-◌, pos, arith, ◌^◌, []}
-use Rattle.isl_column.specs.DarkShadow.{rows_of}
+use Rattle.isl_shadows.specs.Splinters.{rows_of}
 use Rattle.isl_omega.specs.Column.{HoldAt, IsAnswerFor}
 use Rattle.isl_column.specs.declared.dark_shadow.DarkShadow.{DarkShadow}
 use Rattle.isl_column.proofs.DarkShadowLemmas.{open_is}
 use Rattle.std.proofs.lemmas.List.Elements.{All-nil}
-use Rattle.isl_column.specs.Magnitude.{AreSmallSplinters}
-use Rattle.isl_column.proofs.SmallSplinters.{rows_small}
+use Rattle.isl_shadows.specs.Magnitude.{AreSmallSplinters}
+use Rattle.isl_shadows.proofs.SmallSplinters.{rows_small}
 use Rattle.isl_column.proofs.dark_shadow.DarkShadow.open.Goals as goal
 
 pub returns-clause-exact : goal.returns-clause-exact

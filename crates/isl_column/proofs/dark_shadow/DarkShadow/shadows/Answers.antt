@@ -2,14 +2,14 @@ use Rattle.std.proofs.Common.{◌≡◌, pos, length, map, ◌*◌, arith, ◌^�
 use Rattle.std.specs.List.{All}
 use Rattle.std.proofs.lemmas.List.{length-map}
 use Rattle.isl_piece.specs.Row.{IsRowWithin, IsRowUpTo}
-use Rattle.isl_column.specs.DarkShadow.{shifted_row}
+use Rattle.isl_shadows.specs.Splinters.{shifted_row}
 use Rattle.isl_omega.specs.Shadow.{IsShadow}
 use Rattle.isl_piece.proofs.RowMagnitudes.{rows_more}
-use Rattle.isl_column.proofs.DarkShadowLemmas.{shifted_upper, shifted_none}
+use Rattle.isl_shadows.proofs.DarkShadowLemmas.{shifted_upper, shifted_none}
 use Rattle.std.proofs.lemmas.Result.{err_from_is_err_and}
 use Rattle.isl_meter.specs.Gauge.{Gauge}
 use Rattle.isl_omega.specs.Units.{paid}
-use Rattle.isl_column.proofs.SmallSplinters.{all_shifted}
+use Rattle.isl_shadows.proofs.SmallSplinters.{all_shifted}
 use Rattle.isl_column.proofs.dark_shadow.DarkShadow.shadows.Goals as goal
 
 pub returns-clause-exact : goal.returns-clause-exact

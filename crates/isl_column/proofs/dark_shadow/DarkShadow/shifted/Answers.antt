@@ -5,10 +5,10 @@ use Rattle.std.proofs.lemmas.List.Elements.{All-push}
 use Rattle.std.proofs.lemmas.Result.{err_from_is_err_and}
 use Rattle.isl_piece.specs.declared.row.Row.{Row}
 use Rattle.isl_piece.specs.Row.{IsRowUpTo, IsRowWithin, coef_at}
-use Rattle.isl_column.specs.DarkShadow.{shifted_row}
+use Rattle.isl_shadows.specs.Splinters.{shifted_row}
 use Rattle.isl_math.proofs.MagnitudeLaws.{up_to-neg}
 use Rattle.isl_omega.proofs.SmallLemmas.{coef_up_to}
-use Rattle.isl_column.proofs.SmallSplinters.{neighbours_up_to}
+use Rattle.isl_shadows.proofs.SmallSplinters.{neighbours_up_to}
 use Rattle.isl_column.proofs.dark_shadow.DarkShadow.shifted.Goals as goal
 
 pub returns-in_err-reduced_by-clause-no_overflow : goal.returns-in_err-reduced_by-clause-no_overflow

@@ -1,7 +1,7 @@
 use Rattle.std.proofs.Common.{◌≡◌, take, map}
 use Rattle.std.specs.List.{All}
 use Rattle.isl_piece.specs.Row.{IsRowWithin}
-use Rattle.isl_column.specs.DarkShadow.{shifted_row}
+use Rattle.isl_shadows.specs.Splinters.{shifted_row}
 use Rattle.isl_column.proofs.dark_shadow.DarkShadow.shifted.Given as goal
 
 abbrev pub invariant-loop-upper : goal.invariant-loop-upper

@@ -5,15 +5,15 @@ use Rattle.isl_meter.proofs.UnitLemmas.{memory_after, cut_weaker}
 use Rattle.isl_omega.specs.Sides.{AreSidesOf}
 use Rattle.isl_omega.specs.Step.{IsStepOf}
 use Rattle.isl_omega.proofs.SideLemmas.{sides_are}
-use Rattle.isl_column.specs.Column.{HoldAtSome}
+use Rattle.isl_shadows.specs.Column.{HoldAtSome}
 use Rattle.isl_piece.specs.declared.row.Row.{Row}
 use Rattle.isl_column.specs.Parts.{IsBegun}
-use Rattle.isl_column.specs.Residue.{HasNumber, sides_units}
-use Rattle.isl_column.specs.Units.{elimination_units}
-use Rattle.isl_column.proofs.EliminateLemmas.{formed_of, sides_project, sides_cost, most_not_negative}
+use Rattle.isl_shadows.specs.Residue.{HasNumber, sides_units}
+use Rattle.isl_shadows.specs.Units.{elimination_units}
+use Rattle.isl_shadows.proofs.EliminateLemmas.{formed_of, sides_project, sides_cost, most_not_negative}
 use Rattle.isl_column.proofs.PartsLemmas.{begun_weaker}
-use Rattle.isl_column.proofs.UnitLemmas.{pairs_kept}
-use Rattle.isl_column.proofs.SmallSides.{sides_up_to, sides_few}
+use Rattle.isl_shadows.proofs.UnitLemmas.{pairs_kept}
+use Rattle.isl_shadows.proofs.SmallSides.{sides_up_to, sides_few}
 use Rattle.isl_column.proofs.parts.Parts.by_sides.Goals as goal
 
 pub returns-in_err-sides-clause-exact : goal.returns-in_err-sides-clause-exact

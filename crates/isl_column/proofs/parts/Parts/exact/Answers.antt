@@ -1,13 +1,13 @@
 use Rattle.std.proofs.Common.{◌-◌, ◌^◌, arith, lit<}
 use Rattle.isl_omega.specs.Column.{IsAnswerFor}
 use Rattle.isl_meter.specs.Gauge.{IsChargedUpTo}
-use Rattle.isl_column.specs.Column.{HoldAtSome}
-use Rattle.isl_column.specs.Exact.{pairs_on}
-use Rattle.isl_column.specs.Units.{elimination_units}
+use Rattle.isl_shadows.specs.Column.{HoldAtSome}
+use Rattle.isl_shadows.specs.Exact.{pairs_on}
+use Rattle.isl_shadows.specs.Units.{elimination_units}
 use Rattle.isl_column.proofs.PartsLemmas.{IsHead, head_small, head_begun}
 use Rattle.std.proofs.lemmas.Result.{err_from_is_err_and}
 use Rattle.isl_omega.proofs.SmallLemmas.{rows_up_to_at}
-use Rattle.isl_column.proofs.TameLemmas.{within_cut}
+use Rattle.isl_shadows.proofs.TameLemmas.{within_cut}
 use Rattle.isl_column.proofs.parts.Parts.exact.Goals as goal
 
 pub returns-clause-exact : goal.returns-clause-exact

@@ -1,7 +1,8 @@
 use Rattle.std.proofs.Common.{◌≡◌, ◌≢◌, ◌∙◌, [], Some, None, MatchOption, sym, ap, refl, arith}
 use Rattle.isl_meter.specs.Gauge.{IsChargedUpTo, IsCutUpTo}
 use Rattle.isl_meter.proofs.CutLemmas.{IsCharged_trans}
-use Rattle.isl_column.specs.DarkShadow.{IsTakenOut, IsNoDarkShadow, splinter_count}
+use Rattle.isl_column.specs.DarkShadow.{IsTakenOut, IsNoDarkShadow}
+use Rattle.isl_shadows.specs.Splinters.{splinter_count}
 use Rattle.isl_column.specs.Parts.{PartsView, AreUnitsUpTo, IsNoResidue, IsOpenedFrom, most_units, residues_most, residues_least}
 use Rattle.isl_column.proofs.PartsLemmas.{alone_taken, same_limit, some_residues_kept, parts_found, parts_opened, parts_ended, spent_in_shadow, cut_in_shadow, cut_in_residue, if_some, least_at_most_residues}
 use Rattle.isl_column.proofs.SplinterLemmas.{shadow_kept}

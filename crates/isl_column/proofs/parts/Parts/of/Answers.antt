@@ -1,13 +1,13 @@
 use Rattle.std.proofs.Common.{length, pos, arith}
 use Rattle.isl_omega.specs.Equality.{HasEquality}
-use Rattle.isl_column.specs.Column.{HoldAtSome}
-use Rattle.isl_column.specs.Exact.{IsExactColumn}
-use Rattle.isl_column.specs.Solved.{IsLeastAmong}
-use Rattle.isl_column.specs.Units.{elimination_units}
-use Rattle.isl_column.proofs.EliminateLemmas.{most_not_negative, equality_from}
-use Rattle.isl_column.proofs.LeastEquality.{least_equality_at}
+use Rattle.isl_shadows.specs.Column.{HoldAtSome}
+use Rattle.isl_shadows.specs.Exact.{IsExactColumn}
+use Rattle.isl_shadows.specs.Solved.{IsLeastAmong}
+use Rattle.isl_shadows.specs.Units.{elimination_units}
+use Rattle.isl_shadows.proofs.EliminateLemmas.{most_not_negative, equality_from}
+use Rattle.isl_shadows.proofs.LeastEquality.{least_equality_at}
 use Rattle.isl_column.proofs.PartsLemmas.{begun_weaker, begun_exact, begun_units, begun_none}
-use Rattle.isl_column.proofs.TameLemmas.{tame_exact, tame_never, tame_solved}
+use Rattle.isl_shadows.proofs.TameLemmas.{tame_exact, tame_never, tame_solved}
 use Rattle.isl_column.proofs.parts.Parts.of.Goals as goal
 
 pub returns-in-Some-clause-exact : goal.returns-in-Some-clause-exact

@@ -2,14 +2,16 @@ use Rattle.std.proofs.Common.{◌≡◌, ◌*◌, None, Some, pos, ◌<ℤ◌, r
 use Rattle.isl_meter.specs.Gauge.{IsChargedUpTo, IsCutUpTo}
 use Rattle.isl_meter.proofs.UnitLemmas.{cut_weaker, memory_after}
 use Rattle.isl_omega.proofs.ExactUnits.{charged_up_to}
-use Rattle.isl_column.specs.DarkShadow.{IsDarkShadowOf, HasFewSplinters}
-use Rattle.isl_column.specs.Neighbours.{IsMetWithin}
+use Rattle.isl_column.specs.DarkShadow.{IsDarkShadowOf}
+use Rattle.isl_shadows.specs.Splinters.{HasFewSplinters}
+use Rattle.isl_shadows.specs.Neighbours.{IsMetWithin}
 use Rattle.isl_omega.specs.Congruence.{product_of_periods}
 use Rattle.isl_math.proofs.Ring.{linear}
 use Rattle.isl_column.specs.Parts.{PartsView, AreResidues}
-use Rattle.isl_column.specs.Residue.{HasNumber, shadow_units, sides_units}
+use Rattle.isl_shadows.specs.Residue.{HasNumber, shadow_units, sides_units}
 use Rattle.isl_column.proofs.PartsLemmas.{IsResidual, shadow_begun, residues_begun, residues_paid, least_of_residues}
-use Rattle.isl_column.proofs.UnitLemmas.{shadow_cut, shadow_in_sides, shadow_within, sides_units_not_negative}
+use Rattle.isl_shadows.proofs.UnitLemmas.{shadow_cut, shadow_in_sides, sides_units_not_negative}
+use Rattle.isl_column.proofs.DarkShadowLemmas.{shadow_within}
 use Rattle.isl_column.proofs.parts.Parts.of_sides.Goals as goal
 
 -- no unit was used where memory ended

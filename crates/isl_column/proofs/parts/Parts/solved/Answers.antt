@@ -1,12 +1,12 @@
 use Rattle.std.proofs.Common.{◌≡◌, ◌-◌, ◌^◌, pos, arith, lit<}
 use Rattle.isl_omega.specs.Column.{IsAnswerFor}
 use Rattle.isl_meter.proofs.UnitLemmas.{charged_same}
-use Rattle.isl_column.specs.Column.{HoldAtSome}
-use Rattle.isl_column.specs.Solved.{solved_rows}
+use Rattle.isl_shadows.specs.Column.{HoldAtSome}
+use Rattle.isl_shadows.specs.Solved.{solved_rows}
 use Rattle.isl_column.proofs.PartsLemmas.{IsHead, head_none, head_small, head_begun, head_same}
 use Rattle.std.proofs.lemmas.Result.{err_from_is_err_and}
 use Rattle.isl_omega.proofs.SmallLemmas.{rows_up_to_at}
-use Rattle.isl_column.proofs.TameLemmas.{within_cut}
+use Rattle.isl_shadows.proofs.TameLemmas.{within_cut}
 use Rattle.isl_column.proofs.parts.Parts.solved.Goals as goal
 
 pub returns-clause-exact : goal.returns-clause-exact

@@ -1,9 +1,9 @@
 use Rattle.std.proofs.Common.{◌≡◌, ◌<◌, ◌+◌, ◌*◌, length, Some, pos, ◌<ℤ◌, ◌+ℤ◌, ◌≤ℤ◌, arith}
 use Rattle.isl_meter.specs.Gauge.{IsChargedUpTo, IsCutUpTo}
 use Rattle.isl_meter.proofs.UnitLemmas.{cut_weaker}
-use Rattle.isl_column.specs.DarkShadow.{splinter_count}
+use Rattle.isl_shadows.specs.Splinters.{splinter_count}
 use Rattle.isl_column.specs.Parts.{AreResidues, IsOpened, residues_most}
-use Rattle.isl_column.specs.Residue.{residue_units}
+use Rattle.isl_shadows.specs.Residue.{residue_units}
 use Rattle.isl_column.proofs.PartsLemmas.{opened_from, one_in_most}
 use Rattle.isl_column.proofs.residue.Residues.next.Goals as goal
 

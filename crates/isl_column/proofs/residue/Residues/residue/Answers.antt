@@ -3,7 +3,7 @@ use Rattle.isl_piece.specs.Row.{IsRowWithin}
 use Rattle.isl_omega.specs.Step.{residue_row}
 use Rattle.isl_omega.specs.Step.{IsSubstitutionOf}
 use Rattle.isl_omega.specs.Substitution.{IsProgressionOf}
-use Rattle.isl_column.proofs.ResidueLemmas.{residue_is}
+use Rattle.isl_shadows.proofs.ResidueLemmas.{residue_is}
 use Rattle.isl_column.proofs.residue.Residues.residue.Goals as goal
 
 pub returns : goal.returns

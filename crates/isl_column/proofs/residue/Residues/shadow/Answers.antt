@@ -5,12 +5,14 @@ use Rattle.isl_meter.specs.declared.Cut.TheVariants.{Budget, Overflow}
 use Rattle.isl_meter.specs.Gauge.{IsChargedUpTo, IsCutUpTo}
 use Rattle.isl_meter.proofs.UnitLemmas.{charged_same, charged_unit, charged_bits, cut_after, cut_weaker, charged_within, cut_within}
 use Rattle.isl_omega.proofs.ExactUnits.{charged_up_to}
-use Rattle.isl_column.specs.DarkShadow.{IsDarkShadowOf, HasFewSplinters}
-use Rattle.isl_column.specs.Residue.{IsResidueOf, shadow_units, residue_units}
-use Rattle.isl_column.proofs.ResidueLemmas.{residue_kept}
-use Rattle.isl_column.proofs.SearchLemmas.{met_none}
+use Rattle.isl_column.specs.DarkShadow.{IsDarkShadowOf}
+use Rattle.isl_shadows.specs.Splinters.{HasFewSplinters}
+use Rattle.isl_shadows.specs.Residue.{IsResidueOf, shadow_units, residue_units}
+use Rattle.isl_shadows.proofs.ResidueLemmas.{residue_kept}
+use Rattle.isl_shadows.proofs.SearchLemmas.{met_none}
 use Rattle.isl_column.proofs.SplinterLemmas.{shadow_kept}
-use Rattle.isl_column.proofs.UnitLemmas.{residue_cost, residue_units_positive, shadow_within, shadow_cut, pairs_first, pairs_kept}
+use Rattle.isl_shadows.proofs.UnitLemmas.{residue_cost, residue_units_positive, shadow_cut, pairs_first, pairs_kept}
+use Rattle.isl_column.proofs.DarkShadowLemmas.{shadow_within}
 use Rattle.isl_column.proofs.residue.Residues.shadow.Goals as goal
 
 pub returns-in_err-unit-clause-exact : goal.returns-in_err-unit-clause-exact

@@ -12,7 +12,7 @@ use Rattle.isl_piece.specs.declared.row.RowKind.TheVariants as kind
 use Rattle.isl_piece.specs.declared.row.Row.{Row}
 use Rattle.isl_piece.specs.Row.{IsRowUpTo, IsWellFormed, HasModulus, coef_at}
 use Rattle.isl_omega.specs.Magnitude.{AreSidesUpTo}
-use Rattle.isl_column.specs.Magnitude.{has_congruence, congruences_on}
+use Rattle.isl_shadows.specs.Magnitude.{has_congruence, congruences_on}
 use Rattle.isl_omega.specs.Sides.{AreSidesOf, is_same, side_of, side_of_kind, unless_multiple}
 use Rattle.isl_omega.specs.declared.sides.Side.{Side}
 use Rattle.isl_omega.specs.declared.sides.Side.TheVariants.{Lower, Upper, Divides, NotDivides, Free}

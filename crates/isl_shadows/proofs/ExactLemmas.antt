@@ -14,21 +14,21 @@ use Rattle.isl_piece.specs.Normal.{IsNormal}
 use Rattle.isl_piece.specs.Row.{HoldsRow, IsWellFormed, IsRowWithin, value_at, coef_at}
 use Rattle.isl_piece.specs.System.{HoldRows}
 use Rattle.isl_omega.specs.Column.{IsFree, HoldAt, dropped, IsAnswerFor, IsProper}
-use Rattle.isl_column.specs.Column.{HoldAtSome}
-use Rattle.isl_column.specs.RealShadow.{HoldReally}
-use Rattle.isl_column.specs.Exact.{IsExactRow, IsExactColumn, real_rows, rows_left, pairs_on, AreAdded}
+use Rattle.isl_shadows.specs.Column.{HoldAtSome}
+use Rattle.isl_shadows.specs.RealShadow.{HoldReally}
+use Rattle.isl_shadows.specs.Exact.{IsExactRow, IsExactColumn, real_rows, rows_left, pairs_on, AreAdded}
 use Rattle.isl_omega.specs.Shadow.{IsReal, lower_at, upper_at, IsRealRow, real_row}
 use Rattle.isl_omega.specs.Equality.{HasEquality}
 use Rattle.isl_omega.specs.Sides.{IsLower, IsUpper, IsFreeRow, AreSidesOf, AreSided, on_side, side_of, is_same}
-use Rattle.isl_column.specs.Units.{elimination_units}
+use Rattle.isl_shadows.specs.Units.{elimination_units}
 use Rattle.isl_omega.specs.declared.sides.Side.{Side}
 use Rattle.isl_omega.specs.declared.sides.Side.TheVariants.{Lower, Upper, Divides, NotDivides, Free}
 use Rattle.isl_omega.specs.declared.sides.Sides.{Sides}
-use Rattle.isl_column.proofs.DarkShadowLemmas.{dark_meets}
+use Rattle.isl_shadows.proofs.DarkShadowLemmas.{dark_meets}
 use Rattle.isl_omega.specs.Units.{IsDoneFor}
 use Rattle.isl_omega.proofs.ColumnLemmas.{rows_formed, settled_is}
 use Rattle.isl_omega.proofs.ExactUnits.{charged_up_to}
-use Rattle.isl_column.proofs.EliminateLemmas.{formed_of}
+use Rattle.isl_shadows.proofs.EliminateLemmas.{formed_of}
 use Rattle.isl_omega.proofs.ImageLemmas.{free_of_zero, answer_same}
 use Rattle.isl_math.proofs.ListLaws.{All-parts, All-unmapped}
 use Rattle.isl_omega.proofs.PairLemmas.{real_row_of, together_is, holds_at_least}
@@ -36,7 +36,7 @@ use Rattle.isl_omega.proofs.Pairs.{real_divided}
 use Rattle.isl_omega.proofs.ShadowLemmas.{real_pair, exact_pair}
 use Rattle.isl_omega.proofs.ShadowRows.{lower_meets, upper_meets}
 use Rattle.isl_omega.proofs.SideLemmas.{free_rows_hold, same_from, means_of, sides_are, sides_hold}
-use Rattle.isl_column.proofs.UnitLemmas.{pairs_cost}
+use Rattle.isl_shadows.proofs.UnitLemmas.{pairs_cost}
 use Rattle.isl_piece.proofs.RowMagnitudes.{row_within_kept, rows_within_kept}
 
 -- ---- one pair

@@ -6,9 +6,9 @@ use Rattle.isl_math.proofs.Ring.{linear}
 use Rattle.isl_meter.specs.Gauge.{Gauge}
 use Rattle.isl_piece.specs.declared.row.Row.{Row}
 use Rattle.isl_piece.specs.Row.{IsRowUpTo, coef_at}
-use Rattle.isl_column.specs.DarkShadow.{rows_of, shifted_row, AreShadowsOf}
+use Rattle.isl_shadows.specs.Splinters.{rows_of, shifted_row, AreShadowsOf}
 use Rattle.isl_omega.specs.Magnitude.{AreSidesUpTo}
-use Rattle.isl_column.specs.Magnitude.{AreSmallSplinters}
+use Rattle.isl_shadows.specs.Magnitude.{AreSmallSplinters}
 use Rattle.isl_omega.specs.Shadow.{splinters, AreSplintersOf, IsShadow}
 use Rattle.isl_omega.specs.Sides.{IsLower, AreSided}
 use Rattle.isl_omega.specs.declared.shadow.Splinters.{Splinters}
@@ -16,7 +16,7 @@ use Rattle.isl_omega.specs.declared.sides.Sides.{Sides}
 use Rattle.isl_math.proofs.ListLaws.{All-zipped}
 use Rattle.isl_math.proofs.MagnitudeLaws.{up_to-difference, up_to-neg, up_to-product}
 use Rattle.isl_omega.proofs.SmallLemmas.{at_most, coef_up_to}
-use Rattle.isl_column.proofs.SplinterLemmas.{lowered_by}
+use Rattle.isl_shadows.proofs.SplinterLemmas.{lowered_by}
 use Rattle.isl_omega.proofs.SmallPairs.{splinters_few, factors_up_to}
 
 -- at most one neighbour

@@ -11,8 +11,8 @@ use Rattle.isl_piece.specs.Row.{HoldsRow}
 use Rattle.isl_omega.specs.Column.{HoldAt}
 use Rattle.isl_omega.specs.Congruence.{period}
 use Rattle.isl_omega.specs.Sides.{IsNotDivides}
-use Rattle.isl_column.specs.Neighbours.{AreMetAmong, Has}
-use Rattle.isl_column.proofs.SearchLemmas.{IsHit, met_or_hit, met_apart}
+use Rattle.isl_shadows.specs.Neighbours.{AreMetAmong, Has}
+use Rattle.isl_shadows.proofs.SearchLemmas.{IsHit, met_or_hit, met_apart}
 
 take-drop : {X : Type 0} (i : ℕ) (xs : List X) → take i xs ++ drop i xs ≡ xs
 take-drop zero xs = refl

@@ -5,7 +5,7 @@ use Rattle.std.proofs.lemmas.List.{get_or-replicate, get_or-set_same, length-set
 use Rattle.std.proofs.lemmas.List.Edits.{get_or-insert_at}
 use Rattle.std.proofs.lemmas.List.Elements.{All-nil, All-cons, All-head, All-tail, All-map}
 use Rattle.isl_math.specs.Divide as divide
-use Rattle.isl_math.specs.Divide.{floor_mod, IsCongruent}
+use Rattle.isl_math.specs.Divide.{floor_mod}
 use Rattle.isl_math.specs.Dot.{dot}
 use Rattle.isl_math.proofs.Ring.{expand, linear}
 use Rattle.isl_math.proofs.DivideLaws.{Divides-same, mod-from_Divides, floor_mod-same, floor_unique, floor_mod_bounds, IsCongruent-floor_mod, le_from_Divides}
@@ -16,10 +16,9 @@ use Rattle.isl_piece.specs.declared.row.RowKind.TheVariants as kind
 use Rattle.isl_piece.specs.declared.row.Row.{Row}
 use Rattle.isl_piece.specs.Row.{HoldsRow, IsWellFormed, IsRowWithin, value_at, coef_at}
 use Rattle.isl_omega.specs.Column.{IsFree, IsProper}
-use Rattle.isl_omega.specs.Step.{residue_row}
-use Rattle.isl_column.specs.Residue.{IsPeriod, HasNumber, HasResidue, HasResidueBelow, IsResidueOf}
+use Rattle.isl_omega.specs.Step.{residue_row, IsSubstitutionOf, HasFactorsUpTo, IsStepOf}
+use Rattle.isl_shadows.specs.Residue.{IsPeriod, HasNumber, HasResidue, HasResidueBelow, IsResidueOf}
 use Rattle.isl_omega.specs.Sides.{AreSided, SidesHold, IsDivides, IsNotDivides, is_same, side_of, side_of_kind}
-use Rattle.isl_omega.specs.Step.{IsSubstitutionOf, HasFactorsUpTo, IsStepOf}
 use Rattle.isl_omega.specs.Substitution.{IsProgressionOf, substituted}
 use Rattle.isl_omega.specs.declared.sides.Side.TheVariants.{NotDivides}
 use Rattle.isl_omega.specs.declared.sides.Sides.{Sides}

@@ -1,5 +1,5 @@
 -- A column negated: what bounds say of x they say of -x, and the splinters that they ask for.
-use Rattle.std.proofs.Common.{◌≡◌, ◌↔◌, ◌∙◌, refl, sym, ap, subst, map, arith, ℕ, zero, suc, ◌+◌, ◌-◌, ◌<◌, ◌≤◌, ℤ, pos, neg_ℤ, ◌+ℤ◌, ◌-ℤ◌, ◌*ℤ◌, ◌≤ℤ◌, ◌<ℤ◌, ◌*◌, List, [], ◌∷◌, ◌++◌, length, set, get_or, take, unsigned_abs, ◌⊎◌, inl, inr, ◌^◌, Result, Ok, Err, MatchResult, mul_comm}
+use Rattle.std.proofs.Common.{◌≡◌, ◌↔◌, ◌∙◌, refl, sym, ap, subst, map, arith, ℕ, zero, suc, ◌+◌, ◌-◌, ◌<◌, ◌≤◌, ℤ, pos, neg_ℤ, ◌+ℤ◌, ◌-ℤ◌, ◌*ℤ◌, ◌≤ℤ◌, ◌<ℤ◌, ◌*◌, List, [], ◌∷◌, ◌++◌, length, set, get_or, take, unsigned_abs, ◌⊎◌, inl, inr, ◌^◌, Result, Ok, Err, MatchResult}
 use Rattle.std.specs.List.{All, insert, remove}
 use Rattle.std.proofs.lemmas.List.{get_or-set_same, length-set, get_or-map, length-map, map-append}
 use Rattle.std.proofs.lemmas.List.Elements.{All-set, All-map, All-weaker, All-head, All-tail, All-push}
@@ -8,9 +8,7 @@ use Rattle.isl_math.specs.Order.{abs_of}
 use Rattle.isl_math.proofs.Ring.{expand, linear}
 use Rattle.isl_math.proofs.ListLaws.{All-parts}
 use Rattle.isl_math.proofs.MagnitudeLaws.{up_to-neg}
-use Rattle.isl_meter.specs.Gauge.{Gauge, IsWithin, IsCutUpTo}
-use Rattle.isl_meter.specs.declared.Cut.{Cut}
-use Rattle.isl_omega.specs.Units.{paid, IsDoneFor}
+use Rattle.isl_meter.specs.Gauge.{Gauge, IsWithin}
 use Rattle.isl_piece.specs.declared.row.Row.{Row}
 use Rattle.isl_piece.specs.Row.{HoldsValue, HoldsRow, value_at, coef_at, IsRowUpTo}
 use Rattle.isl_omega.specs.Column.{rest_at, HoldAt, IsProper}
@@ -21,13 +19,12 @@ use Rattle.isl_omega.specs.Shadow.{splinters}
 use Rattle.isl_omega.proofs.ColumnLemmas.{value_at-insert, hold_anywhere}
 use Rattle.isl_omega.proofs.Splinters.{splinters_rise}
 use Rattle.isl_omega.proofs.SmallLemmas.{coef_up_to}
-use Rattle.isl_column.specs.DarkShadow.{splinter_total, HasFewSplinters, IsDarkShadowOf, IsDarkShadowWithFewSplinters, splinter_count}
-use Rattle.isl_column.specs.Mirror.{mirrored_row, mirrored, AskForFewer}
-use Rattle.isl_column.specs.declared.dark_shadow.DarkShadow.{DarkShadow}
-use Rattle.isl_column.proofs.DarkShadowLemmas.{splinter_total_not_negative, splinter_total_more}
+use Rattle.isl_shadows.specs.Splinters.{splinter_total}
+use Rattle.isl_shadows.specs.Mirror.{mirrored_row, mirrored, AskForFewer}
+use Rattle.isl_shadows.proofs.DarkShadowLemmas.{splinter_total_not_negative}
 
 -- ---- one row
-coef_mirrored : (r : Row) (col : ℕ) → col < length r.coefs → coef_at (mirrored_row col r) col ≡ neg_ℤ (coef_at r col)
+pub coef_mirrored : (r : Row) (col : ℕ) → col < length r.coefs → coef_at (mirrored_row col r) col ≡ neg_ℤ (coef_at r col)
 coef_mirrored r col h = get_or-set_same r.coefs col (neg_ℤ (coef_at r col)) (pos 0) h
 
 remove-set : (xs : List ℤ) (i : ℕ) (v : ℤ) → remove (set xs i v) i ≡ remove xs i
@@ -111,7 +108,7 @@ hold_mirrored g columns col rows point x l n p = (
         → HoldsRow (mirrored_row col (get_or rows i d)) (insert point col x) ↔ HoldsRow (get_or rows i d) (insert point col (neg_ℤ x))
     one i d k = holds_mirrored (get_or rows i d) col point x (let e = (p i d k).formed.width in omega arith) (omega arith)
 
-twice : (x : ℤ) → neg_ℤ (neg_ℤ x) ≡ x
+pub twice : (x : ℤ) → neg_ℤ (neg_ℤ x) ≡ x
 twice x = omega (arith, linear)
 
 -- ---- sides
@@ -138,7 +135,7 @@ up_to_mirrored_sides b col sides h = record {
   free = h.free;
 }
 
-sides_mirrored : (g : Gauge) (columns col : ℕ) (sides : Sides) (point : List ℤ) (x : ℤ) → col < columns → length point ≡ columns - 1
+pub sides_mirrored : (g : Gauge) (columns col : ℕ) (sides : Sides) (point : List ℤ) (x : ℤ) → col < columns → length point ≡ columns - 1
     → AreSided g columns col sides → sides.divides ≡ [] → sides.not_divides ≡ []
     → SidesHold (mirrored col sides) col point x → SidesHold sides col point (neg_ℤ x)
 sides_mirrored g columns col sides point x l n s no_divides no_not_divides h = record {
@@ -152,7 +149,7 @@ sides_mirrored g columns col sides point x l n s no_divides no_not_divides h = r
     none : HoldAt [] col point (neg_ℤ x)
     none = λ i d k. absurd (omega arith)
 
-mirrored_sides_back : (g : Gauge) (columns col : ℕ) (sides : Sides) (point : List ℤ) (x : ℤ) → col < columns → length point ≡ columns - 1
+pub mirrored_sides_back : (g : Gauge) (columns col : ℕ) (sides : Sides) (point : List ℤ) (x : ℤ) → col < columns → length point ≡ columns - 1
     → AreSided g columns col sides → sides.divides ≡ [] → sides.not_divides ≡ []
     → SidesHold sides col point x → SidesHold (mirrored col sides) col point (neg_ℤ x)
 mirrored_sides_back g columns col sides point x l n s no_divides no_not_divides h = record {
@@ -165,37 +162,6 @@ mirrored_sides_back g columns col sides point x l n s no_divides no_not_divides 
   where
     none : HoldAt [] col point (neg_ℤ x)
     none = λ i d k. absurd (omega arith)
-
--- a dark shadow of the mirrored sides is one of the sides
-pub mirrored_back : (g : Gauge) (columns col : ℕ) (neighbours : ℤ) (sides : Sides) (dark_shadow : DarkShadow) → pos 0 ≤ℤ neighbours → col < columns
-    → AreSided g columns col sides
-    → sides.divides ≡ [] → sides.not_divides ≡ [] → (sides.uppers ≡ [] → ⊥) → AskForFewer col sides.lowers sides.uppers
-    → IsDarkShadowOf g columns col (mirrored col sides) dark_shadow → HasFewSplinters (pos 0) col (mirrored col sides) dark_shadow.tails.items
-    → IsDarkShadowOf g columns col sides dark_shadow × HasFewSplinters neighbours col sides dark_shadow.tails.items
-mirrored_back g columns col neighbours sides dark_shadow least l s no_divides no_not_divides some fewer is few = (
-  record {
-    is_dark_shadow = is.is_dark_shadow;
-    points = λ point n. (
-      (λ a. (is.points point n).0 (neg_ℤ a.0, mirrored_sides_back g columns col sides point a.0 l n s no_divides no_not_divides a.1)),
-      (λ h. let a = (is.points point n).1 h in (neg_ℤ a.0, sides_mirrored g columns col sides point a.0 l n s no_divides no_not_divides a.1)),
-    );
-    open_above = λ e. absurd (some e);
-  },
-  (λ m p u. counted m p u),
-)
-  where
-    factors : All (λ r. neg_ℤ (coef_at r col) ≤ℤ fewer.factor) (map (mirrored_row col) sides.lowers)
-    factors = All-map (λ r. neg_ℤ (coef_at r col) ≤ℤ fewer.factor) (mirrored_row col) sides.lowers
-        (λ i d k. rw (coef_mirrored (get_or sides.lowers i d) col (let e = (s.lowers i d k).proper.formed.width in omega arith), twice (coef_at (get_or sides.lowers i d) col))
-        (fewer.greatest i d k))
-
-    counted : (m : ℤ) → pos 0 <ℤ m → All (λ u. neg_ℤ (coef_at u col) ≤ℤ m) sides.uppers
-        → splinter_count dark_shadow.tails.items ≤ℤ splinter_total neighbours m col sides.lowers
-    counted m p u =
-        let one = few fewer.factor fewer.positive factors in
-        let two = fewer.fewer m p u in
-        let more = splinter_total_more g columns col neighbours m sides.lowers least s.lowers in
-        omega (arith, linear, one, two, more)
 
 -- ---- how many splinters bounds ask for
 pub splinter_total-push : (m : ℤ) (col : ℕ) (lowers : List Row) (l : Row)
@@ -302,20 +268,3 @@ less_within g a b h k w = (omega (arith, linear, h, k), by (2 ^ g.bits) w)
   where
     by : (n : ℕ) → unsigned_abs a < n → unsigned_abs (a -ℤ b) < n
     by n w = omega (arith, linear, h, k, w)
-
--- what is done for the mirrored sides is done for the sides
-pub mirrored_done : (g h : Gauge) (columns col : ℕ) (neighbours : ℤ) (sides new : Sides) (result : Result DarkShadow Cut) → pos 0 ≤ℤ neighbours
-    → new ≡ mirrored col sides → col < columns
-    → AreSided g columns col sides → sides.divides ≡ [] → sides.not_divides ≡ [] → (sides.uppers ≡ [] → ⊥) → AskForFewer col sides.lowers sides.uppers
-    → IsDoneFor (length new.lowers * length new.uppers) g h (IsDarkShadowWithFewSplinters g columns col (pos 0) new) result
-    → IsDoneFor (length sides.lowers * length sides.uppers) g h (IsDarkShadowWithFewSplinters g columns col neighbours sides) result
-mirrored_done g h columns col neighbours sides new result least is l s no_divides no_not_divides some fewer done = by result (rw is at done)
-  where
-    count : length (map (mirrored_row col) sides.uppers) * length (map (mirrored_row col) sides.lowers) ≡ length sides.lowers * length sides.uppers
-    count = rw (length-map sides.uppers (mirrored_row col), length-map sides.lowers (mirrored_row col)) (mul_comm (length sides.uppers) (length sides.lowers))
-
-    by : (result : Result DarkShadow Cut)
-        → IsDoneFor (length (map (mirrored_row col) sides.uppers) * length (map (mirrored_row col) sides.lowers)) g h (IsDarkShadowWithFewSplinters g columns col (pos 0) (mirrored col sides)) result
-        → IsDoneFor (length sides.lowers * length sides.uppers) g h (IsDarkShadowWithFewSplinters g columns col neighbours sides) result
-    by (Ok v) d = (mirrored_back g columns col neighbours sides v least l s no_divides no_not_divides some fewer d.0.0 d.0.1, subst (λ (n : ℕ). h ≡ paid n g) count d.1)
-    by (Err e) d = subst (λ (n : ℕ). IsCutUpTo (pos n) g h e) count d

@@ -9,8 +9,8 @@ use Rattle.isl_piece.specs.declared.row.Row.{Row}
 use Rattle.isl_omega.specs.Equality.{HasEquality}
 use Rattle.isl_omega.specs.Magnitude.{IsNoOverflow}
 use Rattle.isl_omega.specs.Units.{paid}
-use Rattle.isl_column.specs.Exact.{IsExactColumn, pairs_on}
-use Rattle.isl_column.specs.Tame.{IsTameWithin, IsTameColumn}
+use Rattle.isl_shadows.specs.Exact.{IsExactColumn, pairs_on}
+use Rattle.isl_shadows.specs.Tame.{IsTameWithin, IsTameColumn}
 
 -- ---- a cut behind units that were used exactly
 pub answered_behind : {A B : Type 0} (used next most : ℕ) (g h k : Gauge) (cut : Cut) → used + next ≤ most → h ≡ paid used g

@@ -21,13 +21,13 @@ use Rattle.isl_omega.specs.declared.sides.Side.TheVariants.{Lower, Upper, Divide
 use Rattle.isl_omega.specs.declared.sides.Sides.{Sides}
 use Rattle.isl_omega.proofs.ExactUnits.{charged_up_to}
 use Rattle.isl_omega.proofs.SideLemmas.{by_sign_negative, by_sign_positive, lacking_has_none, sides_hold}
-use Rattle.isl_column.specs.Column.{HoldAtSome}
-use Rattle.isl_column.specs.Exact.{pairs_on}
-use Rattle.isl_column.specs.RealShadow.{IsImplied, HoldReally, bounds_and_free}
-use Rattle.isl_column.specs.Residue.{HasNumber}
-use Rattle.isl_column.proofs.ExactLemmas.{exact_sided, real_rows_hold}
-use Rattle.isl_column.proofs.ResidueLemmas.{none_on_side}
-use Rattle.isl_column.proofs.UnitLemmas.{pairs_kept}
+use Rattle.isl_shadows.specs.Column.{HoldAtSome}
+use Rattle.isl_shadows.specs.Exact.{pairs_on}
+use Rattle.isl_shadows.specs.RealShadow.{IsImplied, HoldReally, bounds_and_free}
+use Rattle.isl_shadows.specs.Residue.{HasNumber}
+use Rattle.isl_shadows.proofs.ExactLemmas.{exact_sided, real_rows_hold}
+use Rattle.isl_shadows.proofs.ResidueLemmas.{none_on_side}
+use Rattle.isl_shadows.proofs.UnitLemmas.{pairs_kept}
 
 -- ---- rows that hold wherever others do
 pub answer_implies : (g : Gauge) (columns : ℕ) (P Q : List ℤ → Type 0) → ((point : List ℤ) → length point ≡ columns → P point → Q point) → (o : Option (List Row)) → IsAnswerFor g columns Q o → IsImplied g columns P o

@@ -8,7 +8,7 @@ use Rattle.isl_math.proofs.DivideLaws.{Divides-*ℤ, Divides-same, Divides_self,
 use Rattle.isl_piece.specs.declared.row.Row.{Row}
 use Rattle.isl_piece.specs.Row.{coef_at}
 use Rattle.isl_omega.specs.Congruence.{period, product_of_periods}
-use Rattle.isl_column.specs.Residue.{IsCommonMultiple, IsPeriod}
+use Rattle.isl_shadows.specs.Residue.{IsCommonMultiple, IsPeriod}
 use Rattle.isl_omega.proofs.PeriodLemmas.{period_short, period_multiple}
 
 -- ---- a common period

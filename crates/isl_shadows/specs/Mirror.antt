@@ -2,7 +2,7 @@
 use Rattle.std.specs.Prelude.{ℕ, ℤ, pos, neg_ℤ, ◌≤ℤ◌, ◌<ℤ◌, List, All, map, slice_set}
 use Rattle.isl_piece.specs.declared.row.Row.{Row}
 use Rattle.isl_piece.specs.Row.{coef_at}
-use Rattle.isl_column.specs.DarkShadow.{splinter_total}
+use Rattle.isl_shadows.specs.Splinters.{splinter_total}
 use Rattle.isl_omega.specs.declared.sides.Sides.{Sides}
 
 -- the row with the coefficient at the column negated

@@ -10,19 +10,19 @@ use Rattle.isl_piece.specs.declared.row.RowKind.TheVariants as kind
 use Rattle.isl_piece.specs.declared.row.Row.{Row}
 use Rattle.isl_piece.specs.Row.{HoldsRow, IsWellFormed, value_at, coef_at}
 use Rattle.isl_omega.specs.Congruence.{product_of_divisors, period, product_of_periods}
-use Rattle.isl_column.specs.Column.{HoldAtSome, IsEqualityAt}
+use Rattle.isl_shadows.specs.Column.{HoldAtSome, IsEqualityAt}
 use Rattle.isl_omega.specs.Equality.{HasEquality, IsSolvedBy}
-use Rattle.isl_column.specs.Residue.{HasNumber, sides_units}
+use Rattle.isl_shadows.specs.Residue.{HasNumber, sides_units}
 use Rattle.isl_omega.specs.Column.{IsProper}
 use Rattle.isl_omega.specs.Sides.{IsLower, IsUpper, IsNotDivides, AreSidesOf, AreSided, on_side}
 use Rattle.isl_omega.specs.Step.{IsStepOf}
-use Rattle.isl_column.specs.Units.{product_of_moduli, elimination_units}
+use Rattle.isl_shadows.specs.Units.{product_of_moduli, elimination_units}
 use Rattle.isl_omega.specs.declared.sides.Side.TheVariants.{Lower, Upper}
 use Rattle.isl_omega.specs.declared.sides.Sides.{Sides}
 use Rattle.isl_omega.proofs.PeriodLemmas.{period_short}
 use Rattle.isl_piece.proofs.RowLemmas.{HasModulus-positive}
 use Rattle.isl_omega.proofs.SideLemmas.{sides_hold, picked}
-use Rattle.isl_column.proofs.UnitLemmas.{AreProducts, units_not_negative, same_lessened, moduli_products, step_cost}
+use Rattle.isl_shadows.proofs.UnitLemmas.{AreProducts, units_not_negative, same_lessened, moduli_products, step_cost}
 
 -- ---- no congruence: the step leaves the sides as they are
 own_periods : (g : Gauge) (columns col : ℕ) (rows : List Row) → All (IsNotDivides g columns col) rows → (pos 0 <ℤ product_of_periods col rows) × (product_of_periods col rows ≤ℤ product_of_divisors rows)

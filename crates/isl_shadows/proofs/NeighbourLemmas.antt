@@ -20,7 +20,6 @@ Divides_or_not k z p = elim (cases_ℤ (floor_mod z k) (pos 0)) [
 ]
 
 -- ---- of so many neighbours one is met
-
 -- the upper bound that holds at x exactly where the old one holds at x + n too
 abbrev pub shifted : ℤ → Bound → Bound
 shifted n u = record { factor = u.factor; rest = u.rest -ℤ n *ℤ u.factor }
@@ -78,7 +77,6 @@ run_covers lowers uppers n x k = elim (all_or_any (MeetsLower (x -ℤ n)) (IsEnd
         by x y u e h = rw e at h
 
 -- ---- residues
-
 -- where the period p times c is a multiple of k, what k divides depends on the residue modulo p alone
 pub depends_on_residue : (k c f p x t : ℤ) → Divides k (c *ℤ p) → IsCongruent p x t → Divides k (c *ℤ x +ℤ f) ↔ Divides k (c *ℤ t +ℤ f)
 depends_on_residue k c f p x t m e =

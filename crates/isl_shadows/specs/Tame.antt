@@ -6,8 +6,8 @@ use Rattle.isl_meter.specs.Gauge.{Gauge}
 use Rattle.isl_piece.specs.declared.row.Row.{Row}
 use Rattle.isl_omega.specs.Equality.{HasEquality}
 use Rattle.isl_omega.specs.Units.{IsAnsweredFor}
-use Rattle.isl_column.specs.Exact.{IsExactColumn, pairs_on}
-use Rattle.isl_column.specs.Magnitude.{IsSparedAt}
+use Rattle.isl_shadows.specs.Exact.{IsExactColumn, pairs_on}
+use Rattle.isl_shadows.specs.Magnitude.{IsSparedAt}
 
 -- a limit with room for two products is not passed; and then, where so many units are left, work ends for want of memory alone
 pub record IsTameWithin {A : Type 0} (most : ℕ) (old new : Gauge) (rows : List Row) (col : ℕ) (result : Result A Cut) : Type 0 where

@@ -14,8 +14,8 @@ use Rattle.isl_piece.specs.declared.row.RowKind.TheVariants.{Zero, AtLeast, Divi
 use Rattle.isl_piece.specs.declared.row.Row.{Row}
 use Rattle.isl_piece.specs.Row.{coef_at}
 use Rattle.isl_piece.proofs.NormalCases.{int_lt-true, int_lt-false}
-use Rattle.isl_column.specs.Column.{IsEqualityAt}
-use Rattle.isl_column.specs.Solved.{is_equality, size_at, lesser_of, least_equality, solved_rows, IsEquality, IsLeastAmong}
+use Rattle.isl_shadows.specs.Column.{IsEqualityAt}
+use Rattle.isl_shadows.specs.Solved.{is_equality, size_at, lesser_of, least_equality, solved_rows, IsEquality, IsLeastAmong}
 use Rattle.isl_omega.specs.Equality.{HasEquality, solved_for}
 use Rattle.isl_omega.proofs.SideLemmas.{equalities_lack, lacking_has_none}
 

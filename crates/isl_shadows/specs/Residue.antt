@@ -4,11 +4,11 @@ use Rattle.isl_math.specs.Divide as divide
 use Rattle.isl_meter.specs.Gauge.{Gauge}
 use Rattle.isl_piece.specs.declared.row.Row.{Row}
 use Rattle.isl_piece.specs.Row.{coef_at}
-use Rattle.isl_column.specs.DarkShadow.{splinter_total}
+use Rattle.isl_shadows.specs.Splinters.{splinter_total}
 use Rattle.isl_omega.specs.Congruence.{product_of_periods}
 use Rattle.isl_omega.specs.Sides.{AreSided, SidesHold}
 use Rattle.isl_omega.specs.Step.{HasFactorsUpTo}
-use Rattle.isl_column.specs.Units.{greatest_factor, all_splinters, pairs}
+use Rattle.isl_shadows.specs.Units.{greatest_factor, all_splinters, pairs}
 use Rattle.isl_omega.specs.declared.sides.Sides.{Sides}
 
 -- each row says the same of x and of x + p

@@ -9,7 +9,6 @@ use Rattle.isl_piece.specs.declared.row.RowKind.{RowKind}
 use Rattle.isl_piece.specs.declared.row.RowKind.TheVariants.{Zero, AtLeast, Divides, NotDivides}
 use Rattle.isl_piece.specs.declared.row.Row.{Row}
 use Rattle.isl_piece.specs.Row.{IsRowUpTo, coef_at}
-use Rattle.isl_column.specs.declared.dark_shadow.DarkShadow.{DarkShadow}
 use Rattle.isl_omega.specs.declared.shadow.Splinters.{Splinters}
 
 -- each number of the rows, their coefficients, constants and moduli, is at most 2^30 in magnitude
@@ -45,8 +44,3 @@ IsSparedAt g rows col result = (u w : ℕ) → All (IsRowUpToAt col u w) rows �
 pub record AreSmallSplinters (tail : Splinters) : Type 0 where
   pub lower : IsRowUpTo substituted_magnitude tail.lower
   pub last : unsigned_abs tail.last ≤ paired_magnitude
-
--- a dark_shadow with numbers of at most 2^61 and such tails
-pub record IsSmallDarkShadow (dark_shadow : DarkShadow) : Type 0 where
-  pub rows : All (IsRowUpTo substituted_magnitude) dark_shadow.rows
-  pub tails : All AreSmallSplinters dark_shadow.tails.items

@@ -1,38 +1,36 @@
 -- The units that elimination uses are at most those that the rows tell.
-use Rattle.std.proofs.Common.{◌≡◌, ◌≢◌, ◌∙◌, refl, sym, ap, arith, Bool, true, false, cond, ℕ, zero, suc, ◌*◌, ◌≤◌, ℤ, pos, negsuc, neg_ℤ, ◌+ℤ◌, ◌*ℤ◌, ◌≤ℤ◌, ◌<ℤ◌, List, [], ◌∷◌, length, get_or, unsigned_abs}
+use Rattle.std.proofs.Common.{◌≡◌, ◌≢◌, ◌∙◌, refl, sym, arith, Bool, true, false, cond, ℕ, zero, suc, ◌*◌, ◌≤◌, ℤ, pos, negsuc, neg_ℤ, ◌+ℤ◌, ◌*ℤ◌, ◌≤ℤ◌, ◌<ℤ◌, List, [], ◌∷◌, length, get_or, unsigned_abs}
 use Rattle.std.specs.Int.{int_max}
 use Rattle.std.specs.Ordering.{int_eq}
 use Rattle.std.specs.List.{All, AllZip}
-use Rattle.std.proofs.lemmas.List.Elements.{length_all_zip}
+use Rattle.std.proofs.lemmas.List.Elements.{length_all_zip, All-nil, All-cons, All-head, All-tail, All-weaker}
 use Rattle.std.proofs.lemmas.Bool.{cond-false}
 use Rattle.std.proofs.lemmas.Int.{clamps}
 use Rattle.std.proofs.lemmas.Bool.Decides.{Decides-int_eq}
-use Rattle.std.proofs.lemmas.List.Elements.{All-nil, All-cons, All-head, All-tail, All-weaker}
 use Rattle.isl_math.specs.Divide as divide
-use Rattle.isl_math.specs.Divide.{floor_div, floor_mod}
+use Rattle.isl_math.specs.Divide.{floor_mod}
 use Rattle.isl_math.proofs.Ring.{expand, linear}
 use Rattle.isl_math.proofs.OrderLaws.{*ℤ-≤ℤ, ≤ℤ-*ℤ, positive-*ℤ, not_negative-*ℤ, product_le, negative-*ℤ}
 use Rattle.isl_math.proofs.DivideLaws.{mod-from_Divides, Divides-zero}
-use Rattle.isl_meter.specs.Gauge.{Gauge, IsChargedUpTo, IsCutUpTo}
+use Rattle.isl_meter.specs.Gauge.{Gauge, IsCutUpTo}
 use Rattle.isl_meter.specs.declared.Cut.{Cut}
 use Rattle.isl_meter.proofs.UnitLemmas.{cut_weaker}
 use Rattle.isl_piece.specs.declared.row.RowKind.{RowKind}
 use Rattle.isl_piece.specs.declared.row.RowKind.TheVariants as kind
 use Rattle.isl_piece.specs.declared.row.Row.{Row}
 use Rattle.isl_piece.specs.Row.{HasModulus, IsWellFormed, coef_at}
-use Rattle.isl_column.specs.DarkShadow.{IsDarkShadowOf, HasFewSplinters, splinter_count, splinter_total}
+use Rattle.isl_shadows.specs.Splinters.{splinter_total}
 use Rattle.isl_omega.specs.Congruence.{product_of_divisors, product_of_periods}
-use Rattle.isl_column.specs.Residue.{splinter_bound, shadow_units, residue_units, sides_units, sides_units, IsPeriod, IsResidueOf}
+use Rattle.isl_shadows.specs.Residue.{splinter_bound, shadow_units, residue_units, sides_units, sides_units, IsPeriod, IsResidueOf}
 use Rattle.isl_omega.specs.Shadow.{splinters}
 use Rattle.isl_omega.specs.Sides.{IsLower, IsUpper, AreSided, on_side, side_of, side_of_kind, is_same, unless_multiple}
 use Rattle.isl_omega.specs.Step.{HasFactorsUpTo, IsStepOf}
 use Rattle.isl_omega.specs.Tighten.{IsLessened}
-use Rattle.isl_column.specs.Units.{greatest_factor, counted_splinters, sum_of_splinters, all_splinters, pairs, modulus_of, product_of_moduli, units_of_bounds}
-use Rattle.isl_column.specs.declared.dark_shadow.DarkShadow.{DarkShadow}
+use Rattle.isl_shadows.specs.Units.{greatest_factor, counted_splinters, sum_of_splinters, all_splinters, pairs, modulus_of, product_of_moduli, units_of_bounds}
 use Rattle.isl_omega.specs.declared.sides.Side.{Side}
 use Rattle.isl_omega.specs.declared.sides.Side.TheVariants.{Lower, Upper, Divides, NotDivides, Free}
 use Rattle.isl_omega.specs.declared.sides.Sides.{Sides}
-use Rattle.isl_column.proofs.DarkShadowLemmas.{splinter_total_not_negative}
+use Rattle.isl_shadows.proofs.DarkShadowLemmas.{splinter_total_not_negative}
 use Rattle.isl_omega.proofs.PeriodLemmas.{period_short, periods_positive}
 use Rattle.isl_piece.proofs.RowLemmas.{HasModulus-positive}
 use Rattle.isl_omega.proofs.SideLemmas.{side_means, unless_zero}
@@ -53,21 +51,13 @@ greatest_bounds col (u ∷ uppers) =
     more : (x a b : ℤ) → x ≤ℤ b → x ≤ℤ int_max a b
     more x a b h = omega (arith, linear, clamps)
 
-greatest_positive : (g : Gauge) (columns col : ℕ) (u : Row) (uppers : List Row) → All (IsUpper g columns col) (u ∷ uppers) → pos 0 <ℤ greatest_factor col (u ∷ uppers)
+pub greatest_positive : (g : Gauge) (columns col : ℕ) (u : Row) (uppers : List Row) → All (IsUpper g columns col) (u ∷ uppers) → pos 0 <ℤ greatest_factor col (u ∷ uppers)
 greatest_positive g columns col u uppers h = by (coef_at u col) (greatest_factor col uppers) (All-head (IsUpper g columns col) u uppers h).factor
   where
     by : (c b : ℤ) → c <ℤ pos 0 → pos 0 <ℤ int_max (neg_ℤ c) b
     by c b p = omega (arith, linear, clamps)
 
 -- ---- the tails of a dark_shadow
-pub tails_bounded : (g : Gauge) (columns col : ℕ) (neighbours : ℤ) (sides : Sides) (dark_shadow : DarkShadow) (uppers : List Row)
-    → sides.uppers ≡ uppers → AreSided g columns col sides → IsDarkShadowOf g columns col sides dark_shadow
-    → HasFewSplinters neighbours col sides dark_shadow.tails.items
-    → splinter_count dark_shadow.tails.items ≤ℤ splinter_bound neighbours col sides.lowers uppers
-tails_bounded g columns col neighbours sides dark_shadow [] e s b few = let none = ap splinter_count (b.open_above e) in omega (arith, linear)
-tails_bounded g columns col neighbours sides dark_shadow (u ∷ uppers) e s b few =
-    few (greatest_factor col (u ∷ uppers)) (greatest_positive g columns col u uppers (rw e at s.uppers)) (rw e (greatest_bounds col (u ∷ uppers)))
-
 pub bound_not_negative : (g : Gauge) (columns col : ℕ) (neighbours : ℤ) (lowers uppers : List Row) → pos 0 ≤ℤ neighbours
     → All (IsLower g columns col) lowers → All (IsUpper g columns col) uppers → pos 0 ≤ℤ splinter_bound neighbours col lowers uppers
 bound_not_negative g columns col neighbours lowers [] q hl hu = omega (arith, linear)
@@ -421,16 +411,6 @@ shadow_in_sides g columns col neighbours s a less =
     let most = bound_scaled g columns col neighbours k s.lowers s.uppers less p a.lowers a.uppers in
     at_least_once k (pairs s.lowers s.uppers) (all_splinters col k s.lowers s.uppers) (shadow_units neighbours col s) p (pairs_not_negative s.lowers s.uppers)
     (all_splinters_not_negative g columns col k s.lowers s.uppers p a.lowers a.uppers) (omega (arith, linear))
-
--- the dark shadow of sides with its splinters
-pub shadow_within : (g h : Gauge) (columns col : ℕ) (neighbours : ℤ) (s : Sides) (dark_shadow : DarkShadow) → AreSided g columns col s
-    → IsDarkShadowOf g columns col s dark_shadow → HasFewSplinters neighbours col s dark_shadow.tails.items
-    → IsChargedUpTo (pos (length s.lowers * length s.uppers)) g h
-    → (pos h.units +ℤ splinter_count dark_shadow.tails.items) ≤ℤ (pos g.units +ℤ shadow_units neighbours col s)
-shadow_within g h columns col neighbours s dark_shadow a is few charged =
-    let most = tails_bounded g columns col neighbours s dark_shadow s.uppers refl a is few in
-    let own = charged.most in
-    omega (arith, linear)
 
 pub shadow_cut : (g h : Gauge) (columns col : ℕ) (neighbours : ℤ) (s : Sides) (cut : Cut) → pos 0 ≤ℤ neighbours → AreSided g columns col s
     → IsCutUpTo (pos (length s.lowers * length s.uppers)) g h cut → IsCutUpTo (shadow_units neighbours col s) g h cut

@@ -6,7 +6,7 @@ use Rattle.isl_piece.specs.Normal.{IsNormal}
 use Rattle.isl_piece.specs.System.{HoldRows}
 use Rattle.isl_omega.specs.Column.{HoldAt, IsProper}
 use Rattle.isl_omega.specs.declared.sides.Sides.{Sides}
-use Rattle.isl_column.specs.Exact.{rows_left}
+use Rattle.isl_shadows.specs.Exact.{rows_left}
 
 -- normal rows over so many columns that hold at each point of P
 pub record AreImplied (g : Gauge) (columns : ℕ) (P : List ℤ → Type 0) (rows : List Row) : Type 0 where

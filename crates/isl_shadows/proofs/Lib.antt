@@ -1,0 +1,16 @@
+pub mod CommonPeriods
+pub mod CountLemmas
+pub mod DarkShadowLemmas
+pub mod EliminateLemmas
+pub mod ExactLemmas
+pub mod LeastEquality
+pub mod MirrorLaws
+pub mod NeighbourLemmas
+pub mod RealShadowLemmas
+pub mod ResidueLemmas
+pub mod SearchLemmas
+pub mod SmallSides
+pub mod SmallSplinters
+pub mod SplinterLemmas
+pub mod TameLemmas
+pub mod UnitLemmas

@@ -1,0 +1,11 @@
+pub mod Column
+pub mod Exact
+pub mod Magnitude
+pub mod Mirror
+pub mod Neighbours
+pub mod RealShadow
+pub mod Residue
+pub mod Solved
+pub mod Splinters
+pub mod Tame
+pub mod Units
