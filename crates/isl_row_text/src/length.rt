@@ -1,6 +1,6 @@
 //! How long texts become.
 
-ghost use Rattle.std.specs.Prelude.{◌≤◌, OnOk};
+ghost use Rattle.std.specs.Prelude.{◌<◌, ◌≤◌, OnErr, OnOk};
 
 use std::alloc::AllocError;
 
@@ -11,9 +11,10 @@ const MOST_BYTES: usize = 67_108_864;
 ///
 /// # Errors
 ///
-/// `AllocError` where it is longer than what is kept.
+/// `AllocError` exactly where it is longer than what is kept.
 pub fn check_length(bytes: usize) -> Result<(), AllocError>
-    ensures { OnOk result (bytes ≤ 67108864) }
+    ensures within { OnOk result (bytes ≤ 67108864) }
+    ensures fault { OnErr result (67108864 < bytes) }
 {
     if bytes > MOST_BYTES {
         return Err(AllocError);

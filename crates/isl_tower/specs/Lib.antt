@@ -4,3 +4,4 @@ pub mod Ends
 pub mod Level
 pub mod Numbers
 pub mod Tower
+pub mod Weight

@@ -1,10 +1,11 @@
 //! One level of a tower.
 
-ghost use Rattle.std.specs.Prelude.{◌≡◌, ◌+◌, [], ◌∷◌, ◌++◌, OnOk, MatchResult};
+ghost use Rattle.std.specs.Prelude.{◌≡◌, ◌+◌, [], ◌∷◌, ◌++◌, OnOk, MatchResult, min};
 ghost use Rattle.isl_meter.specs.Gauge.{IsCharged, IsCutBy};
 ghost use Rattle.isl_piece.specs.System.{IsSystemWithin, free_columns};
 ghost use Rattle.isl_tower.specs.Level.{AreOver, AreBelow};
 ghost use Rattle.isl_tower.specs.Tower.{IsProjectionOnto};
+ghost use Rattle.isl_tower.specs.Weight.{level_weight};
 
 use isl_column::are_too_many;
 use isl_elim::eliminate;
@@ -44,10 +45,12 @@ impl Level {
     }
 
     // How many rows the systems have, and one more for each.
-    pub(crate) fn weight(&self) -> usize {
-        let mut weight = self.systems.len();
+    pub(crate) fn weight(&self) -> usize
+        ensures { result ≡ min (level_weight self.now) usize.MAX }
+    {
+        let mut weight = 0usize;
         for system in self.systems.as_slice() {
-            weight = weight.saturating_add(system.rows.len());
+            weight = weight.saturating_add(system.rows.len().saturating_add(1));
         }
         weight
     }

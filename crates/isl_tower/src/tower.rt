@@ -1,10 +1,11 @@
 //! Towers of projections.
 
-ghost use Rattle.std.specs.Prelude.{◌≡◌, ◌<◌, ◌≤◌, [], length, slice_index_or, All, IfOk};
+ghost use Rattle.std.specs.Prelude.{◌≡◌, ◌<◌, ◌≤◌, [], length, slice_index_or, min, All, IfOk};
 ghost use Rattle.isl_meter.specs.Gauge.{IsMetered};
 ghost use Rattle.isl_piece.specs.Normal.{IsNormal};
 ghost use Rattle.isl_piece.specs.System.{IsSystemWithin, free_columns};
 ghost use Rattle.isl_tower.specs.Tower.{IsTowerOf};
+ghost use Rattle.isl_tower.specs.Weight.{tower_weight};
 
 use crate::level::Level;
 use isl_column::are_too_many;
@@ -31,7 +32,9 @@ impl Model for Tower {
 }
 
 // How many rows the systems of the levels have, and one more for each system.
-fn weight_of(levels: &[Level]) -> usize {
+fn weight_of(levels: &[Level]) -> usize
+    ensures { result ≡ min (tower_weight levels.now) usize.MAX }
+{
     let mut weight = 0usize;
     for level in levels {
         weight = weight.saturating_add(level.weight());
@@ -72,7 +75,9 @@ impl Tower {
     }
 
     /// How many rows its systems have, and one more for each system.
-    pub fn weight(&self) -> usize {
+    pub fn weight(&self) -> usize
+        ensures { result ≡ min (tower_weight self.now) usize.MAX }
+    {
         weight_of(self.levels.as_slice())
     }
 
