@@ -7,7 +7,7 @@ ghost use Rattle.isl_bounds.specs.Side.{toward};
 use isl_meter::{Int, Meter};
 
 /// From where a number is bounded: from below, or from above.
-#[derive(Clone, Copy, Debug, PartialEq, Eq)]
+#[derive(Clone, Copy, PartialEq, Eq)]
 pub enum Side {
     Low,
     High,

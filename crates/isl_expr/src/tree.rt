@@ -55,7 +55,7 @@ pub enum Postfix {
 }
 
 /// What joins two operands.
-#[derive(Clone, Copy, Debug, PartialEq, Eq)]
+#[derive(Clone, Copy, PartialEq, Eq)]
 pub enum Binary {
     /// `=`
     Equal,
@@ -96,7 +96,7 @@ pub enum Binary {
 }
 
 /// A word before an operand.
-#[derive(Clone, Copy, Debug, PartialEq, Eq)]
+#[derive(Clone, Copy, PartialEq, Eq)]
 pub enum Prefix {
     Domain,
     Range,
@@ -116,7 +116,7 @@ pub enum Prefix {
 }
 
 /// What kind of value an expression has.
-#[derive(Clone, Copy, Debug, PartialEq, Eq)]
+#[derive(Clone, Copy, PartialEq, Eq)]
 pub enum ValueKind {
     Set,
     Map,

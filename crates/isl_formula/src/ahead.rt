@@ -6,7 +6,7 @@ ghost use Rattle.isl_formula.specs.Ahead as spec;
 use isl_token::{Cursor, Kind, Rest};
 
 /// What is looked for in brackets.
-#[derive(Clone, Copy, Debug)]
+#[derive(Clone, Copy)]
 pub enum Mark {
     /// A comparison, or a word of formulas.
     Formula,

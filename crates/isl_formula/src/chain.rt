@@ -47,7 +47,7 @@ fn comparison(tokens: &mut Cursor<'_>) -> Result<Compare, Fault>
 }
 
 /// Reads terms whose brackets are nested less than `depth` deep.
-#[derive(Clone, Copy, Debug)]
+#[derive(Clone, Copy)]
 struct TermReader {
     depth: usize,
 }
@@ -140,7 +140,7 @@ fn binder(alloc: Global, tokens: &mut Cursor<'_>, depth: usize) -> Result<Binder
     Ok(Binder { name, value })
 }
 
-#[derive(Clone, Copy, Debug)]
+#[derive(Clone, Copy)]
 struct BinderReader {
     depth: usize,
 }

@@ -14,7 +14,7 @@ use sqlite_items::{Boxed, Items};
 use std::alloc::Global;
 
 /// What joins formulas in a row.
-#[derive(Clone, Copy, Debug)]
+#[derive(Clone, Copy)]
 enum Operator {
     Implies,
     Or,

@@ -10,7 +10,7 @@ use sqlite_items::Items;
 use std::alloc::Global;
 
 /// Which whole number stands for a quotient.
-#[derive(Clone, Copy, Debug)]
+#[derive(Clone, Copy)]
 enum Rounding {
     Down,
     Up,

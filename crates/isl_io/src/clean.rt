@@ -56,7 +56,7 @@ impl Source for CleanSource {
 }
 
 /// A sink that takes each piece whole, keeps nothing, and never fails.
-#[derive(Clone, Copy, Debug, Default, PartialEq, Eq)]
+#[derive(Clone, Copy, Default, PartialEq, Eq)]
 pub struct CleanSink;
 
 impl CleanSink {

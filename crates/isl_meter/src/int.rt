@@ -9,7 +9,7 @@ use crate::{Meter, Overflow};
 use std::marker::Model;
 
 /// An integer of 128 bits, which clauses see as a mathematical one.
-#[derive(Clone, Copy, Debug, PartialEq, Eq, PartialOrd, Ord, Hash, Default)]
+#[derive(Clone, Copy, PartialEq, Eq, PartialOrd, Ord, Hash, Default)]
 pub struct Int {
     value: i128,
 }

@@ -9,7 +9,7 @@ use isl_piece::{Row, RowKind, Rows};
 use std::alloc::{AllocError, Global};
 
 /// What a row says of a column.
-#[derive(Clone, Copy, Debug, PartialEq, Eq)]
+#[derive(Clone, Copy, PartialEq, Eq)]
 pub enum Side {
     /// At least 0, with a coefficient above 0.
     Lower,

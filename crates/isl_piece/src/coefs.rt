@@ -10,7 +10,6 @@ use crate::numbers;
 use isl_meter::{Int, Meter};
 use smallvec::SmallVec;
 use std::alloc::{AllocError, AllocFailed, Global};
-use std::fmt;
 use std::marker::Model;
 
 /// The coefficients of a row, one for each column. Up to 8 lie in the row itself.
@@ -46,12 +45,6 @@ impl Eq for Coefs {
     ghost use Rattle.std.specs.Cmp.Lexicographic.{lists_equiv};
 
     ghost laws = { lists_equiv int_eq_equiv };
-}
-
-impl fmt::Debug for Coefs {
-    fn fmt<W: fmt::Write>(&self, f: &mut fmt::Formatter<W>) -> fmt::Result {
-        f.debug_list().entries(self.as_slice()).finish()
-    }
 }
 
 impl Coefs {

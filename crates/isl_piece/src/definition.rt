@@ -14,7 +14,7 @@ use std::marker::Model;
 
 /// What a defined column stands for: the form `coefs[0] x0 + coefs[1] x1 + .. + constant` over the columns before it, divided by
 /// `k` and rounded down. `k` is at least 1.
-#[derive(Debug, PartialEq, Eq, Drop)]
+#[derive(PartialEq, Eq, Drop)]
 pub struct Definition {
     pub coefs: Coefs,
     pub constant: i128,

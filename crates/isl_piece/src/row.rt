@@ -10,7 +10,7 @@ use isl_meter::{Int, Meter, Overflow};
 use std::alloc::{AllocError, Global};
 
 /// What a row asks of its form: to be 0, to be at least 0, to be divisible by `k`, or not to be.
-#[derive(Clone, Copy, Debug, PartialEq, Eq)]
+#[derive(Clone, Copy, PartialEq, Eq)]
 pub enum RowKind {
     Zero,
     AtLeast,
@@ -20,7 +20,7 @@ pub enum RowKind {
 
 /// A constraint on the form `coefs[0] x0 + coefs[1] x1 + .. + constant`.
 /// `k` is at least 1, and 1 for `Zero` and `AtLeast`.
-#[derive(Debug, PartialEq, Eq, Drop)]
+#[derive(PartialEq, Eq, Drop)]
 pub struct Row {
     pub kind: RowKind,
     pub coefs: Coefs,

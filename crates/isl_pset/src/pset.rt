@@ -17,7 +17,7 @@ use sqlite_items::Items;
 use std::alloc::Global;
 
 // Reads names.
-#[derive(Clone, Copy, Debug)]
+#[derive(Clone, Copy)]
 struct NameReader;
 
 impl ItemReader for NameReader {
@@ -108,7 +108,7 @@ fn condition(alloc: Global, tokens: &mut Cursor<'_>, depth: usize) -> Result<Pie
 }
 
 // Reads formulas whose brackets are nested less than `depth` deep.
-#[derive(Clone, Copy, Debug)]
+#[derive(Clone, Copy)]
 struct ConditionReader {
     depth: usize,
 }

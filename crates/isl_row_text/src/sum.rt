@@ -9,7 +9,7 @@ use std::alloc::AllocError;
 use std::fmt::Write;
 
 /// A side of a comparison.
-#[derive(Clone, Copy, Debug, PartialEq, Eq)]
+#[derive(Clone, Copy, PartialEq, Eq)]
 pub enum Side {
     Left,
     Right,

@@ -7,7 +7,7 @@ ghost use Rattle.isl_script.specs.Cutter.{IsAt};
 use std::marker::Model;
 
 /// Cuts the bytes of a script into statements, one byte at a time, and keeps none of them.
-#[derive(Clone, Copy, Debug)]
+#[derive(Clone, Copy)]
 pub struct Cutter {
     in_comment: bool,
     depth: u32,

@@ -8,7 +8,7 @@ use isl_eval::Answer;
 
 /// How many statements were answered, how many of the answers are `True`, and how many elements they list. The counts are exact:
 /// a script has too few bytes for one of them to reach its greatest value.
-#[derive(Clone, Copy, Debug, PartialEq, Eq)]
+#[derive(Clone, Copy, PartialEq, Eq)]
 pub struct Counts {
     pub statements: u64,
     pub trues: u64,

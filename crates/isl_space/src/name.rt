@@ -14,7 +14,7 @@ use std::marker::Model;
 use std::rc::Rc;
 
 /// A name, which shares its text with its copies. Contracts see its bytes.
-#[derive(Debug, Drop)]
+#[derive(Drop)]
 pub struct Name {
     text: Rc<String>,
 }

@@ -15,7 +15,7 @@ use std::rc::Rc;
 /// The shape of a tuple: a leaf of so many coordinates, or a pair of shapes.
 ///
 /// Shapes are compared by content. Contracts see a shape as the `Form` that it has when the sharing of its parts is forgotten.
-#[derive(Debug, Drop)]
+#[derive(Drop)]
 pub enum Shape {
     Leaf { name: Option<Name>, width: u32 },
     Pair(Rc<Shape>, Rc<Shape>),

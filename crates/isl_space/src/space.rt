@@ -15,7 +15,7 @@ use std::rc::Rc;
 /// Where elements lie: the one shape of a set's elements, or the two of a map's.
 ///
 /// Spaces are compared by content. Contracts see a space as the `SpaceForm` that it has when the sharing of its parts is forgotten.
-#[derive(Debug, Drop)]
+#[derive(Drop)]
 pub enum Space {
     Set(Rc<Shape>),
     Map(Rc<Shape>, Rc<Shape>),

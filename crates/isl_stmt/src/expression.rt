@@ -15,7 +15,7 @@ use sqlite_items::{Boxed, Items};
 use std::alloc::Global;
 
 /// Which dependences are asked for.
-#[derive(Clone, Copy, Debug)]
+#[derive(Clone, Copy)]
 pub enum Flow {
     Any,
     Last,

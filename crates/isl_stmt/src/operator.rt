@@ -10,7 +10,7 @@ use isl_expr::tree::Binary;
 use isl_token::{Cursor, Fault, Kind};
 
 /// How tightly an operator binds, the loosest first.
-#[derive(Clone, Copy, Debug, PartialEq, Eq)]
+#[derive(Clone, Copy, PartialEq, Eq)]
 pub enum Precedence {
     Test,
     Universal,

@@ -11,7 +11,7 @@ use isl_token::{Cursor, Fault};
 use std::alloc::Global;
 
 /// What a token is outside literals, where it is a word.
-#[derive(Clone, Copy, Debug, PartialEq, Eq)]
+#[derive(Clone, Copy, PartialEq, Eq)]
 pub enum Role {
     /// No word.
     NoWord,

@@ -81,7 +81,7 @@ fn piece(alloc: Global, tokens: &mut Cursor<'_>, depth: usize) -> Result<PieceTr
 }
 
 /// Reads pieces whose brackets are nested less than `depth` deep.
-#[derive(Clone, Copy, Debug)]
+#[derive(Clone, Copy)]
 struct PieceReader {
     depth: usize,
 }
@@ -121,7 +121,7 @@ fn pieces(alloc: Global, tokens: &mut Cursor<'_>, depth: usize) -> Result<Items<
 }
 
 /// Reads names.
-#[derive(Clone, Copy, Debug)]
+#[derive(Clone, Copy)]
 struct NameReader;
 
 impl ItemReader for NameReader {

@@ -7,7 +7,7 @@ use isl_token::Fault;
 use std::alloc::{AllocError, AllocFailed};
 
 /// Why a run ends before its script does.
-#[derive(Clone, Copy, Debug, PartialEq, Eq)]
+#[derive(Clone, Copy, PartialEq, Eq)]
 pub enum Refusal {
     /// The command line is none that the program takes.
     Usage,

@@ -50,7 +50,7 @@ fn entry(alloc: Global, tokens: &mut Cursor<'_>, depth: usize) -> Result<Entry, 
 }
 
 /// Reads entries whose brackets are nested less than `depth` deep.
-#[derive(Clone, Copy, Debug)]
+#[derive(Clone, Copy)]
 struct EntryReader {
     depth: usize,
 }

@@ -36,7 +36,7 @@ const STACKING: [&[u8]; 21] = [
 ];
 
 /// A place in a text: the brackets that are open, and the stacking words since the last brace or `;`.
-#[derive(Clone, Copy, Debug)]
+#[derive(Clone, Copy)]
 struct Place {
     brackets: usize,
     words: usize,

@@ -13,7 +13,7 @@ use crate::token::{Kind, word_kind};
 use std::alloc::Global;
 
 /// Bytes that stand in rows.
-#[derive(Clone, Copy, Debug)]
+#[derive(Clone, Copy)]
 enum Class {
     Blank,
     Comment,
@@ -24,7 +24,7 @@ enum Class {
 }
 
 /// What stands at the front of a text.
-#[derive(Clone, Copy, Debug)]
+#[derive(Clone, Copy)]
 pub(crate) enum Piece {
     /// A blank or a comment.
     Nothing,

@@ -11,7 +11,7 @@ use crate::token::Kind;
 use std::marker::Model;
 
 /// Where a token begins, and its kind.
-#[derive(Clone, Copy, Debug)]
+#[derive(Clone, Copy)]
 pub(crate) struct Mark {
     pub(crate) place: u32,
     pub(crate) kind: Kind,

@@ -47,7 +47,7 @@ pub enum Factor {
 }
 
 /// The signs of comparison.
-#[derive(Clone, Copy, Debug, PartialEq, Eq)]
+#[derive(Clone, Copy, PartialEq, Eq)]
 pub enum Compare {
     Equal,
     Less,
