@@ -325,4 +325,4 @@ reduction_later g columns old fixed (Some new) a r =
     let n = r.are.nowhere in
     record { are = record { proper = r.are.proper; nowhere = ((λ h. both.0 (n.0 h)), (λ h. n.1 (both.1 h))) }; normal = r.normal }
 
-pub ruleset fixed_steps = (fixed_none, fixed_next, alike_itself, alike_found)
+pub ruleset fixed_steps = (fixed_none, fixed_next)

@@ -1,3 +1,4 @@
 pub mod FixedLaws
 pub mod OneSidedLaws
+pub mod PairLaws
 pub mod ShearLaws

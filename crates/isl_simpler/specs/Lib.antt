@@ -1,10 +1,14 @@
 pub mod Emptiness
 pub mod Fixed
 pub mod OneSided
+pub mod Pairs
 pub mod Shear
 pub mod Unit
 pub use Rattle.isl_meter.specs.Gauge
 pub use Rattle.isl_omega.specs.Column
+pub use Rattle.isl_omega.specs.Equality
+pub use Rattle.isl_omega.specs.Sides
 pub use Rattle.isl_piece.specs.Normal
 pub use Rattle.isl_piece.specs.System
 pub use Rattle.isl_redundant.specs.Redundant
+pub use Rattle.isl_shadows.specs.Exact

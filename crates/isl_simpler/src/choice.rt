@@ -5,9 +5,6 @@ ghost use Rattle.isl_simpler.specs.Unit.{IsUnitRow};
 
 use isl_piece::{Row, RowKind};
 
-// Where fewer rows are added as a column goes, all pairs cost less than a search for rows that the others imply.
-const LEAST_ADDED: u128 = 8;
-
 // How many splinters of any column are too many.
 const MANY_SPLINTERS: u128 = 6;
 
@@ -140,16 +137,6 @@ impl ColumnUse {
         self.splinters(rows, true).min(self.splinters(rows, false))
     }
 
-    // How many rows more there are once all pairs of its bounds stand for them; none where an equality has the column.
-    fn added_rows(self) -> u128 {
-        if self.equality.is_some() {
-            return 0;
-        }
-        let bounds = self.lowers.count.saturating_add(self.uppers.count);
-        let pairs = self.lowers.count.saturating_mul(self.uppers.count);
-        pairs.saturating_sub(bounds)
-    }
-
     // Whether no row has the column.
     fn is_unused(self) -> bool {
         let is_unbounded = self.lowers.count == 0 && self.uppers.count == 0;
@@ -184,11 +171,6 @@ fn splinters_of(number: u128, greatest: u128) -> u128
 {
     let less = number.saturating_sub(1);
     less - less / greatest.max(1)
-}
-
-/// Whether many rows are added whichever of the columns is taken out.
-pub fn add_many_rows(rows: &[Row], cols: &[usize]) -> bool {
-    cols.iter().all(|col| ColumnUse::of(rows, *col).added_rows() >= LEAST_ADDED)
 }
 
 /// Whether many splinters are left whichever of the columns is taken out.

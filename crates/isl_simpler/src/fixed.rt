@@ -275,7 +275,7 @@ fn lack_congruences(rows: &[Row]) -> bool
 /// # Errors
 ///
 /// `Overflow` where a number passes the limit of the meter, and `NoMemory`.
-#[tactic(auto, using(std::proofs::lemmas::Grind::common_steps, crate::proofs::FixedLaws::fixed_steps))]
+#[tactic(auto, using(std::proofs::lemmas::Grind::common_steps, crate::proofs::FixedLaws::alike_itself))]
 pub fn with_fixed(
     alloc: Global,
     rows: Rows,

@@ -5,6 +5,7 @@ ghost use Rattle.isl_omega.specs.Column.{IsProper};
 ghost use Rattle.isl_simpler.specs.Emptiness.{HoldNowhere};
 
 use crate::choice::number_at;
+use crate::pairs::pairs_at;
 use isl_meter::Meter;
 use isl_piece::{Row, RowKind, Rows};
 use std::alloc::{AllocError, Global};
@@ -27,22 +28,6 @@ struct Step {
     at: usize,
     added: i128,
     failing: usize,
-}
-
-/// How many pairs of bounds the column has; none where an equality has it.
-pub fn pairs_at(rows: &[Row], col: usize) -> usize {
-    let mut lowers: usize = 0;
-    let mut uppers: usize = 0;
-    for row in rows {
-        let sign = number_at(row, col).signum();
-        match row.kind {
-            RowKind::Zero if sign != 0 => return 0,
-            RowKind::AtLeast if sign > 0 => lowers = lowers.saturating_add(1),
-            RowKind::AtLeast if sign < 0 => uppers = uppers.saturating_add(1),
-            _ => {}
-        }
-    }
-    lowers.saturating_mul(uppers)
 }
 
 // Whether each of the columns has many pairs of bounds.

@@ -6,11 +6,13 @@ mod choice;
 mod fixed;
 mod guess;
 mod one_sided;
+mod pairs;
 mod reduction;
 mod shear;
 
-pub use choice::{add_many_rows, any_column, cheapest};
+pub use choice::{any_column, cheapest};
 pub use fixed::with_fixed;
-pub use guess::{hold_at_guess, pairs_at};
+pub use guess::hold_at_guess;
 pub use one_sided::without_one_sided;
+pub use pairs::{add_many_rows, pairs_at};
 pub use shear::reduced;
