@@ -1,10 +1,11 @@
 //! The points of a system that begin with given numbers.
 
-ghost use Rattle.std.specs.Prelude.{◌≡◌, ◌↔◌, ◌+◌, ◌≤◌, ℤ, List, [], length, All, IfOk, IfSome, IsNone};
+ghost use Rattle.std.specs.Prelude.{◌≡◌, ◌↔◌, ◌+◌, ◌≤◌, ℤ, List, [], length, min, All, IfOk, IfSome, IsNone};
 ghost use Rattle.isl_meter.specs.Gauge.{IsMetered, IsWithin};
 ghost use Rattle.isl_piece.specs.declared.system.System.{System};
 ghost use Rattle.isl_piece.specs.System.{IsSystemWithin, free_columns};
 ghost use Rattle.isl_tower.specs.Bounded.{IsBoundedAt};
+ghost use Rattle.isl_tower.specs.Weight.{tower_weight};
 ghost use Rattle.isl_points.specs.Fibre.{IsFibre, IsFibreOf};
 ghost use Rattle.isl_points.specs.Points.{ArePointsAt};
 
@@ -60,7 +61,9 @@ impl Fibre {
     }
 
     /// How many rows are kept of it, and one more for each of the systems that have them.
-    pub fn weight(&self) -> usize {
+    pub fn weight(&self) -> usize
+        ensures { result ≡ min (tower_weight self.now) usize.MAX }
+    {
         self.tower.weight()
     }
 

@@ -1,7 +1,7 @@
 //! Lists of points.
 
-ghost use Rattle.std.specs.Prelude.{◌≡◌, ◌<◌, ◌≤◌, ◌*◌, OnOk, [], length, slice_index_or, IsTrue, ◌↔◌};
-ghost use Rattle.isl_points.specs.Flat.{points_in};
+ghost use Rattle.std.specs.Prelude.{◌≡◌, ◌<◌, ◌≤◌, ◌*◌, OnErr, OnOk, [], length, slice_index_or, IsTrue, ◌↔◌};
+ghost use Rattle.isl_points.specs.Flat.{laid_out, points_in};
 
 use std::alloc::{AllocError, Global};
 use std::marker::Model;
@@ -13,9 +13,10 @@ const MOST_NUMBERS: usize = 6_291_456;
 ///
 /// # Errors
 ///
-/// `AllocError` where they are more than are kept.
+/// `AllocError` exactly where they are more than are kept.
 pub fn check_count(numbers: usize) -> Result<(), AllocError>
-    ensures { OnOk result (numbers ≤ 6291456) }
+    ensures within { OnOk result (numbers ≤ 6291456) }
+    ensures fault { OnErr result (6291456 < numbers) }
 {
     if numbers > MOST_NUMBERS {
         return Err(AllocError);
@@ -74,7 +75,9 @@ impl Points {
     }
 
     /// How many numbers they have together.
-    pub fn size(&self) -> usize {
+    pub fn size(&self) -> usize
+        ensures { result ≡ length (laid_out self.now) }
+    {
         self.numbers.len()
     }
 
