@@ -8,7 +8,7 @@ use std::alloc::{AllocError, Global};
 use std::marker::Model;
 
 /// What is called, and the numbers that it gets.
-#[derive(Debug, Drop)]
+#[derive(Drop)]
 pub struct Call {
     name: Option<Name>,
     args: Vec<i128>,
