@@ -6,3 +6,4 @@ pub mod StepLaws
 pub mod AtomLaws
 pub mod LoopLaws
 pub mod FormedLaws
+pub mod TextLaws

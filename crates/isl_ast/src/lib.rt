@@ -1,4 +1,4 @@
-//! Loops as trees: their execution and their text.
+//! Loops as trees: their execution, their text, and the text of their calls.
 #![tactic(auto)]
 
 mod arguments;
@@ -6,6 +6,7 @@ mod call;
 mod callee;
 mod formed;
 mod run;
+mod text;
 mod value;
 
 pub use call::Call;
@@ -14,3 +15,4 @@ pub use formed::is_loop_over;
 pub use isl_loop::{Atom, Expr, Item, Loop};
 pub use isl_loop_text::loop_text;
 pub use run::{execute, run_loops};
+pub use text::run_text;

@@ -20,7 +20,7 @@ use Rattle.isl_calls.specs.declared.calls.Calls.{Calls}
 use Rattle.isl_calls.specs.Apart.{called_form}
 use Rattle.isl_calls.specs.Calls.{numbers_behind, width_behind, IsCalledAt}
 use Rattle.isl_calls.proofs.CallsLaws.{behind_long, read}
-use Rattle.isl_due.specs.Due.{name_of, timed_call}
+use Rattle.isl_schedule.specs.Due.{name_of, timed_call}
 
 -- ---- lists
 drop_front : (n : ℕ) (xs ys : List ℤ) → length xs ≡ n → drop n (xs ++ ys) ≡ ys

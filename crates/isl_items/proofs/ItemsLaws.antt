@@ -24,8 +24,8 @@ use Rattle.isl_calls.specs.declared.calls.Calls.{Calls}
 use Rattle.isl_calls.specs.Apart.{called_form}
 use Rattle.isl_calls.specs.Calls.{width_behind, AreCalls, AreCallsOf, AreOwnCalls, IsCalledAt}
 use Rattle.isl_calls.proofs.CallsLaws.{zipped_back, zipped_pairs}
-use Rattle.isl_due.specs.Due.{name_of, timed_call, IsDue}
-use Rattle.isl_due.proofs.GoodLaws.{leaves_same}
+use Rattle.isl_schedule.specs.Due.{name_of, timed_call, IsDue}
+use Rattle.isl_schedule.proofs.GoodLaws.{leaves_same}
 use Rattle.isl_items.specs.Items.{AreItemsOf, CallsAt, IsItemOf, IsOnlyItem}
 use Rattle.isl_items.proofs.CalledLaws.{called_behind, item_view}
 

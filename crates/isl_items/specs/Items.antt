@@ -15,7 +15,7 @@ use Rattle.isl_relation.specs.Point.{Point}
 use Rattle.isl_union.specs.KeptValue.{KeptValue, Has}
 use Rattle.isl_calls.specs.Calls.{IsCalledAt, IsSetForm, IsSetOf}
 use Rattle.isl_calls.specs.declared.calls.Calls.{Calls}
-use Rattle.isl_due.specs.Due.{timed_call, IsDue}
+use Rattle.isl_schedule.specs.Due.{timed_call, IsDue}
 
 -- what the item calls where the parameters have their numbers
 abbrev pub CallsAt : List Name → Valuation → Timed → Item → Type 0

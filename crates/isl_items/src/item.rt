@@ -4,7 +4,7 @@ ghost use Rattle.std.specs.Prelude.{◌≡◌, IfOk};
 ghost use Rattle.isl_meter.specs.Gauge.{IsMetered};
 ghost use Rattle.isl_space.specs.Shape.{form_of};
 ghost use Rattle.isl_calls.specs.Calls.{AreCalls};
-ghost use Rattle.isl_due.specs.Due.{name_of};
+ghost use Rattle.isl_schedule.specs.Due.{name_of};
 ghost use Rattle.isl_items.specs.Items.{IsItemOf};
 
 use crate::covers::covers_of;

@@ -2,6 +2,9 @@ pub mod Expr
 pub mod Turns
 pub mod Run
 pub mod Formed
+pub mod Depth
+pub mod Program
+pub mod Printable
 pub mod Lists
 pub mod Nest
 pub mod Good

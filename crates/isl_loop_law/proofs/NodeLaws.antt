@@ -6,13 +6,14 @@ use Rattle.isl_meter.specs.Gauge.{Gauge}
 use Rattle.isl_space.specs.Name.{Name}
 use Rattle.isl_row_text.specs.Joined.{Text}
 use Rattle.isl_loop.specs.declared.tree.Loop.{Loop, Block', For', If', Call, Row_of-Loop, end_of-Loop, more_of-Loop}
+use Rattle.isl_loop.specs.Depth.{depth_of, depth_in}
 use Rattle.isl_loop.specs.Formed.{IsLoopOver, AreLoopsOver}
 use Rattle.isl_loop.specs.Lists.{calls_of, turns_through}
+use Rattle.isl_loop.specs.Program.{HasNames, HaveNames}
 use Rattle.isl_loop.specs.Run.{Event, trace, traces, turns_of, turns_in}
 use Rattle.isl_loop_text.specs.LoopText.{loop_lines, lines_in}
 use Rattle.isl_loop_text.specs.Rest.{lines_of}
 use Rattle.isl_loop_text.specs.Size.{loop_size, loops_size}
-use Rattle.isl_loop_law.specs.OneTrace.{HasNames, HaveNames, nesting, deepest}
 
 abbrev mutual
   pub nodes : Loop → List Loop
@@ -97,7 +98,7 @@ mutual
 pub record IsPart (g : Gauge) (n depth k : ℕ) (x : Loop) : Type 0 where
   pub over : IsLoopOver g n x
   pub named : HasNames x
-  pub nested : depth + nesting x ≤ 2 ^ 64
+  pub nested : depth + depth_of x ≤ 2 ^ 64
   pub sized : loop_size x ≤ k
   pub node : IsNode x
 
@@ -110,7 +111,7 @@ parts-append g n depth k [] ys a b = b
 parts-append g n depth k (x ∷ xs) ys a b = (a.0, parts-append g n depth k xs ys a.1 b)
 
 mutual
-  pub parts_nodes : (x : Loop) (g : Gauge) (n depth k : ℕ) → IsLoopOver g n x → HasNames x → depth + nesting x ≤ 2 ^ 64 → loop_size x ≤ k
+  pub parts_nodes : (x : Loop) (g : Gauge) (n depth k : ℕ) → IsLoopOver g n x → HasNames x → depth + depth_of x ≤ 2 ^ 64 → loop_size x ≤ k
       → AreParts g n depth k (nodes x)
   parts_nodes (Block' s row) g n depth k over named nested sized = parts_nodes_in row g n depth k over named nested (omega (arith, sized))
   parts_nodes (For' low high step s body) g n depth k over named nested sized =
@@ -121,7 +122,7 @@ mutual
       (record { over = over; named = named; nested = nested; sized = sized; node = tt }, tt)
 
   pub parts_nodes_in : {m : _} → (row : Row_of-Loop m) (g : Gauge) (n depth k : ℕ) → AreLoopsOver g n row → HaveNames row
-      → depth + deepest row ≤ 2 ^ 64 → loops_size row ≤ k → AreParts g n depth k (nodes_in row)
+      → depth + depth_in row ≤ 2 ^ 64 → loops_size row ≤ k → AreParts g n depth k (nodes_in row)
   parts_nodes_in end_of-Loop g n depth k over named nested sized = tt
   parts_nodes_in (more_of-Loop part rest) g n depth k over named nested sized =
       parts-append g n depth k (nodes part) (nodes_in rest)

@@ -16,15 +16,17 @@ use Rattle.isl_row_text.specs.Joined.{Text, joined_by}
 use Rattle.isl_row_text.specs.RowText.{row_text}
 use Rattle.isl_loop.specs.declared.tree.Expr.{Expr}
 use Rattle.isl_loop.specs.declared.tree.Loop.{Loop, Block', For', If', Call, Row_of-Loop}
+use Rattle.isl_loop.specs.Depth.{depth_in}
 use Rattle.isl_loop.specs.Expr.{expr_value}
 use Rattle.isl_loop.specs.Formed.{IsExprOver, IsLoopOver, AreLoopsOver, IsRowOver}
+use Rattle.isl_loop.specs.Program.{HaveNames}
 use Rattle.isl_loop.specs.Run.{Event, each_in, rows_hold, traces, turns_in}
 use Rattle.isl_loop.specs.Turns.{turns}
 use Rattle.isl_loop_text.specs.ExprText.{expr_text}
 use Rattle.isl_loop_text.specs.LoopText.{variable, names_inside, condition_text, loop_lines, lines_in}
 use Rattle.isl_loop_text.specs.Rest.{lines_of}
 use Rattle.isl_loop_text.specs.Size.{loop_size, loops_size}
-use Rattle.isl_loop_law.specs.OneTrace.{HaveNames, deepest, OneTrace}
+use Rattle.isl_loop_law.specs.OneTrace.{OneTrace, ProgramTells}
 use Rattle.isl_loop_law.proofs.WordLaws.{IsWord, tails, words, decimals, positive_same, wide}
 use Rattle.isl_loop_law.proofs.NameLaws.{inside_distinct, inside_named, length-inside}
 use Rattle.isl_loop_law.proofs.SignLaws.{clash}
@@ -79,7 +81,7 @@ module _ (params : List Name) (different : AreDistinct params) (literal : All Is
   body_splits : {m r : _} → (k : ℕ) → ((j : ℕ) → suc j ≡ k → Agrees j)
       → (depth : ℕ) (margin : Text) (row : Row_of-Loop m) (sow : Row_of-Loop r) (z w : Text)
       → AreLoopsOver g (length params + depth) row → AreLoopsOver h (length params + depth) sow → HaveNames row → HaveNames sow
-      → depth + deepest row ≤ 2 ^ 64 → depth + deepest sow ≤ 2 ^ 64 → 1 + loops_size row ≤ k → 1 + loops_size sow ≤ k
+      → depth + depth_in row ≤ 2 ^ 64 → depth + depth_in sow ≤ 2 ^ 64 → 1 + loops_size row ≤ k → 1 + loops_size sow ≤ k
       → lines_in params depth (margin ++ codes "  ") row ++ closed margin z
       ≡ lines_in params depth (margin ++ codes "  ") sow ++ closed margin w
       → AreSame (nodes_in row) (nodes_in sow) × (z ≡ w)
@@ -253,3 +255,6 @@ one_trace params a b different literal p q same =
       calls = λ point. calls_nodes a point ∙ parts.0.calls point ∙ sym (calls_nodes b point);
       turns = λ point. turns_nodes a point ∙ parts.0.turns point ∙ sym (turns_nodes b point);
     }
+
+pub program_tells : ProgramTells
+program_tells params tree list is other o same = one_trace params tree other list.distinct list.named is o (sym same)

@@ -21,7 +21,8 @@ use std::fmt::Write;
 fn variable(alloc: Global, params: &Params, depth: usize) -> Result<Name, AllocError>
     ensures { IfOk result (λ name. name ≡ variable params.now depth) }
 {
-    let name = format!(in alloc; "c{depth}")?;
+    let mut name = String::from_str(alloc, "c")?;
+    write!(name, "{depth}")?;
     free_name(alloc, params, name.as_str())
 }
 

@@ -27,8 +27,8 @@ use Rattle.isl_schedule.specs.Refused.{IsRefused}
 use Rattle.isl_schedule.specs.Schedule.{IsSchedule}
 use Rattle.isl_schedule.specs.declared.fault.GenFault.TheVariants as gen_fault
 use Rattle.isl_union.specs.KeptValue.{Has, KeptValue}
-use Rattle.isl_due.specs.Due.{IsDue}
-use Rattle.isl_due.specs.Good.{ListsCalls}
+use Rattle.isl_schedule.specs.Due.{IsDue}
+use Rattle.isl_schedule.specs.Good.{ListsCalls}
 use Rattle.isl_items.specs.Items.{AreItemsOf}
 use Rattle.isl_loops.specs.Together.{AreApart, IsCalledBySome, IsOver, ListsAll}
 use Rattle.isl_loops.proofs.StartLaws.{apart_behind, lists_at_params}

@@ -5,7 +5,7 @@ ghost use Rattle.isl_meter.specs.Gauge.{IsMetered};
 ghost use Rattle.isl_loop.specs.Formed.{IsLoopOver};
 ghost use Rattle.isl_union.specs.KeptValue.{HasNoDefinitions};
 ghost use Rattle.isl_union.specs.Numbers.{IsWithinLimit};
-ghost use Rattle.isl_due.specs.Good.{IsGenerated, ListsCalls};
+ghost use Rattle.isl_schedule.specs.Good.{IsGenerated, ListsCalls};
 ghost use Rattle.isl_schedule.specs.Schedule.{IsSchedule};
 ghost use Rattle.isl_space.specs.Form.{width_of};
 ghost use Rattle.isl_piece.specs.declared.row.Row.{Row};

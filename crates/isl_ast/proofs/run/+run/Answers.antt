@@ -93,7 +93,7 @@ append_all-loop-part-preserved g t c =
           c.append.new.callee c.args.run.now.point.items c.loop-part.run.point.items c.args.parts.now c.loop-part.part-index
           c.part-item.result low c.part-item.is c.loop-part.invariant.so_far c.loop-part.invariant.point c.in_ok-append.ensures.run.0
           c.in_ok-append.ensures.run.1;
-      point = c.in_ok-append.ensures.point ∙ c.loop-part.invariant.point;
+      point = ◌∙◌ {A = List ℤ} c.in_ok-append.ensures.point c.loop-part.invariant.point;
     }
 
 -- ---- trees

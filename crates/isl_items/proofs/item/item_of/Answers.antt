@@ -5,7 +5,7 @@ use Rattle.isl_piece.specs.System.{free_columns}
 use Rattle.isl_nest.specs.Covered.{view_of}
 use Rattle.isl_nest.specs.declared.item.Item.{Item}
 use Rattle.isl_calls.specs.Apart.{called_form}
-use Rattle.isl_due.specs.Due.{name_of}
+use Rattle.isl_schedule.specs.Due.{name_of}
 use Rattle.isl_items.proofs.CalledLaws.{view_made}
 use Rattle.isl_items.proofs.CoverLaws.{domain_fits, is_covered}
 use Rattle.isl_items.proofs.ItemsLaws.{item_made}

@@ -4,7 +4,7 @@ use Rattle.isl_meter.proofs.CutLemmas.{IsCharged_trans}
 use Rattle.isl_space.specs.Form.{width_of}
 use Rattle.isl_loop.proofs.LimitLaws.{IsLoopOver-same}
 use Rattle.isl_nest.proofs.AroundLaws.{charged_bits}
-use Rattle.isl_due.proofs.GoodLaws.{good_tree}
+use Rattle.isl_schedule.proofs.GoodLaws.{good_tree}
 use Rattle.isl_loops.proofs.GenerateLaws.{cut_later, items_later}
 use Rattle.isl_loops.proofs.generate.codegen.Goals as goal
 

@@ -8,7 +8,7 @@ use Rattle.isl_nest.specs.Separate.{IsSeparate}
 use Rattle.isl_space.specs.Limits.{most_coordinates}
 use Rattle.isl_space.specs.Name.{Name}
 use Rattle.isl_space.specs.Names.{IsParameterList}
-use Rattle.isl_due.specs.Good.{ListsCalls}
+use Rattle.isl_schedule.specs.Good.{ListsCalls}
 use Rattle.isl_loops.specs.Strided.{IsNeverIdle}
 use Rattle.isl_loops.specs.Together.{ListsAll}
 use Rattle.isl_loops.proofs.AloneLaws.{never_idle}

@@ -1,9 +1,9 @@
 use Rattle.std.proofs.Common.{◌≡◌, ◌∙◌, ◌++◌, ap, List, ℕ}
 use Rattle.std.specs.Prelude.{string_bytes}
 use Rattle.isl_loop.specs.Run.{trace}
-use Rattle.isl_call_text.specs.CallText.{call_lines}
-use Rattle.isl_call_text.proofs.CallLaws.{called_lines}
-use Rattle.isl_call_text.proofs.run_text.Goals as goal
+use Rattle.isl_ast.specs.CallText.{call_lines}
+use Rattle.isl_ast.proofs.TextLaws.{called_lines}
+use Rattle.isl_ast.proofs.text.run_text.Goals as goal
 
 pub returns-clause-exact : goal.returns-clause-exact
 returns-clause-exact c =

@@ -1,5 +1,4 @@
 //! The calls of loops as text.
-#![tactic(auto)]
 
 ghost use Rattle.std.specs.Prelude.{◌≡◌, ◌+◌, ◌++◌, ◌<◌, codes, length, map, IfErr, MatchResult, OnOk, string_bytes};
 ghost use Rattle.std.specs.Fmt.{signed_decimal};
@@ -9,9 +8,10 @@ ghost use Rattle.isl_space.specs.Form.{name_text};
 ghost use Rattle.isl_loop.specs.Formed.{IsLoopOver, RunPasses};
 ghost use Rattle.isl_loop.specs.Run.{trace, turns_of};
 ghost use Rattle.isl_row_text.specs.Joined.{each_after, joined_by};
-ghost use Rattle.isl_call_text.specs.CallText.{call_lines};
+ghost use Rattle.isl_ast.specs.CallText.{call_lines};
 
-use isl_ast::{Callee, Loop, run_loops};
+use crate::{Callee, run_loops};
+use isl_loop::Loop;
 use isl_meter::{Cut, Meter};
 use isl_row_text::check_length;
 use isl_space::Name;
@@ -76,7 +76,7 @@ impl Model for Lines {
 
 impl Callee for Lines {
     ghost use Rattle.std.specs.Prelude.{◌++◌};
-    ghost use Rattle.isl_call_text.specs.CallText.{call_line};
+    ghost use Rattle.isl_ast.specs.CallText.{call_line};
 
     ghost called = { λ before event after. after ≡ before ++ call_line event };
 
@@ -94,7 +94,7 @@ impl Callee for Lines {
 ///
 /// # Errors
 ///
-/// As of `isl_ast::run_loops`; and `NoMemory` where the text is too long.
+/// As of `run_loops`; and `NoMemory` where the text is too long.
 pub fn run_text(alloc: Global, tree: &Loop, at: &[i128], meter: &mut Meter) -> Result<String, Cut>
     requires { IsLoopOver meter.old (length at.now) tree.now }
     ensures exact { MatchResult result

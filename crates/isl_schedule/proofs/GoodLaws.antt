@@ -14,8 +14,8 @@ use Rattle.isl_relation.specs.Wide.{IsLiveIn}
 use Rattle.isl_schedule.specs.Schedule.{IsPair, IsSchedule, IsVisitedAt}
 use Rattle.isl_schedule.proofs.VisitLaws.{points_same}
 use Rattle.isl_union.specs.KeptValue.{KeptPiece, KeptValue, Has, HasElement}
-use Rattle.isl_due.specs.Due.{name_of}
-use Rattle.isl_due.specs.Good.{HasCallAt, IsGoodTree, ListsCalls}
+use Rattle.isl_schedule.specs.Due.{name_of}
+use Rattle.isl_schedule.specs.Good.{HasCallAt, IsGoodTree, ListsCalls}
 
 -- forms that are no pairs are told by name and width
 pub leaves_same : (a b : Form) → ¬ IsPair a → ¬ IsPair b → name_of a ≡ name_of b → width_of a ≡ width_of b → a ≡ b

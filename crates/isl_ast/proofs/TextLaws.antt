@@ -3,7 +3,7 @@ use Rattle.std.proofs.Common.{◌≡◌, ◌∙◌, ℕ, List, [], ◌∷◌, �
 use Rattle.std.proofs.lemmas.List.{append-nil}
 use Rattle.isl_loop.specs.Run.{Event}
 use Rattle.isl_ast.specs.Called.{AreCalled}
-use Rattle.isl_call_text.specs.CallText.{call_line, call_lines}
+use Rattle.isl_ast.specs.CallText.{call_line, call_lines}
 
 -- where each call puts its line behind a text, all put theirs there
 pub called_lines : (before after : List ℕ) (calls : List Event)

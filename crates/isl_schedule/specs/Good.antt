@@ -10,7 +10,7 @@ use Rattle.isl_loop.specs.Run.{Event, trace}
 use Rattle.isl_union.specs.KeptValue.{KeptValue, Has}
 use Rattle.isl_schedule.specs.Refused.{IsRefused}
 use Rattle.isl_schedule.specs.declared.fault.GenFault.{GenFault}
-use Rattle.isl_due.specs.Due.{IsDue}
+use Rattle.isl_schedule.specs.Due.{IsDue}
 
 -- the call of a point that the value tells to be visited at these numbers
 abbrev pub HasCallAt : KeptValue → Valuation → Event → List ℤ → Type 0

@@ -2,7 +2,7 @@ use Rattle.std.proofs.Common.{◌≡◌, ◌++◌, drop, map}
 use Rattle.std.specs.Prelude.{codes, string_bytes}
 use Rattle.std.specs.Fmt.{signed_decimal}
 use Rattle.isl_row_text.specs.Joined.{each_after}
-use Rattle.isl_call_text.proofs.write_more_numbers.Given as goal
+use Rattle.isl_ast.proofs.text.write_more_numbers.Given as goal
 
 abbrev pub invariant-loop-number : goal.invariant-loop-number
 invariant-loop-number l =
