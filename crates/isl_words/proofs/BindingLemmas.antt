@@ -45,9 +45,11 @@ no_equals limit part absent = by_test (is_identifier (before_first is_equals par
 -- what a binding is
 pub binding_is : (limit : ℕ) (part : List ℕ) (given : Binding) → binding limit part ≡ Some given
     → IsIdentifier given.0 × (unsigned_abs given.1 ≤ limit)
-binding_is limit part given is = by_test (is_identifier (before_first is_equals part)) (whole limit (after_first is_equals part)) refl refl is
+binding_is limit part given is =
+    by_test (is_identifier (before_first is_equals part)) (whole limit (after_first is_equals part)) refl refl is
   where
-    by_test : (named : Bool) (z : Option ℤ) → is_identifier (before_first is_equals part) ≡ named → whole limit (after_first is_equals part) ≡ z
+    by_test : (named : Bool) (z : Option ℤ) → is_identifier (before_first is_equals part) ≡ named
+        → whole limit (after_first is_equals part) ≡ z
         → (if named then option_map (λ y. (before_first is_equals part, y)) z else None) ≡ Some given
         → IsIdentifier given.0 × (unsigned_abs given.1 ≤ limit)
     by_test false z named value is = absurd (cc)

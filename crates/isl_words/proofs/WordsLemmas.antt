@@ -1,8 +1,10 @@
 -- What the values given to the options choose.
 use Rattle.std.proofs.Common.{◌≡◌, ◌∙◌, ℕ, ℤ, ◌-◌, ◌^◌, ◌≤◌, List, [], Option, Some, None, option_map, refl, sym, subst, codes, arith}
-use Rattle.std.specs.Prelude.{unsigned_abs, IfSome}
-use Rattle.std.specs.List.{slice_split}
+use Rattle.std.proofs.Common.{String, Global, map}
+use Rattle.std.specs.Prelude.{string_bytes, unsigned_abs, IfSome}
+use Rattle.std.specs.List.{list_any, slice_split}
 use Rattle.std.proofs.lemmas.List.Elements.{All-nil}
+use Rattle.clap.proofs.WalkLemmas.{list_any-map}
 use Rattle.clap.specs.Walk.{Row, Text, first_of}
 use Rattle.clap.specs.Simple.{matches_of}
 use Rattle.isl_space.specs.Name.{IsIdentifier}
@@ -10,8 +12,7 @@ use Rattle.isl_words.specs.Binding.{is_comma}
 use Rattle.isl_words.specs.Options.{OptionsView, AreNumbers, IsChoice}
 use Rattle.isl_words.specs.Options.{least_bits, most_bits, usual_bits, least_budget, most_budget, usual_budget, least_made, most_made}
 use Rattle.isl_words.specs.Number.{number}
-use Rattle.isl_words.specs.Taken.{AreGiven, AreTaken, Chooses, chosen, make_of}
-use Rattle.isl_words.specs.Table.{table}
+use Rattle.isl_words.specs.Taken.{AreGiven, AreTaken, Chooses, chosen, command, is_dashes, make_of}
 use Rattle.isl_words.proofs.NumberLemmas.{some_same, number_range}
 use Rattle.isl_words.proofs.BindingLemmas.{bindings_added, bindings_are}
 
@@ -55,7 +56,7 @@ chooses_once rows a b first second =
     λ i. record { bits = bits i; budget = budget i; at = at i; run = run i; make = make i; keep_going = keep_going i }
 
 pub taken_once : (words : List Text) (a b : OptionsView) → AreTaken words a → AreTaken words b → a ≡ b
-taken_once words a b first second = chooses_once (matches_of table words) a b first.chosen second.chosen
+taken_once words a b first second = chooses_once (matches_of command words) a b first.chosen second.chosen
 
 -- for how many sizes a script is made
 made_range : (number_is make : Option ℕ) → ((n : ℕ) → number_is ≡ Some n → (least_made ≤ n) × (n ≤ most_made))
@@ -72,10 +73,16 @@ made_choice (Some text) make is =
 chooses_choice : (rows : List Row) (a : OptionsView) → Chooses rows a → IsChoice a
 chooses_choice rows a is = record {
   bits = chosen_range least_bits most_bits usual_bits (first_of (codes "bits") rows) a.bits (omega arith) (omega arith) is.bits;
-  budget = chosen_range least_budget most_budget usual_budget (first_of (codes "budget") rows) a.budget (omega arith) (omega arith) is.budget;
+  budget = chosen_range least_budget most_budget usual_budget (first_of (codes "budget") rows) a.budget (omega arith) (omega arith)
+      is.budget;
   at = given_numbers (2 ^ a.bits - 1) (first_of (codes "at") rows) a.at is.at;
   make = made_choice (first_of (codes "make") rows) a.make is.make;
 }
 
 pub taken_choice : (words : List Text) (a : OptionsView) → AreTaken words a → IsChoice a
-taken_choice words a is = chooses_choice (matches_of table words) a is.chosen
+taken_choice words a is = chooses_choice (matches_of command words) a is.chosen
+
+-- ---- words as texts
+pub dashes : (words : List (String Global)) → list_any (λ word. is_dashes (string_bytes word)) words
+    ≡ list_any is_dashes (map string_bytes words)
+dashes words = list_any-map is_dashes string_bytes words

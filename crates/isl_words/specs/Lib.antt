@@ -2,6 +2,5 @@ pub mod Number
 pub mod Binding
 pub mod Adding
 pub mod Options
-pub mod Table
 pub mod Taken
 pub use Rattle.isl_space.specs.Name

@@ -46,9 +46,12 @@ pub record AreNumbers (limit : ℕ) (at : List (Name × ℤ)) : Type 0 where
   pub distinct : AreDistinct (map (λ given. given.0) at)
   pub small : All (λ given. unsigned_abs given.1 ≤ limit) at
 
--- what may be chosen: the numbers of parameters are within the limit of the bits
-pub record IsChoice (options : OptionsView) : Type 0 where
-  pub bits : (least_bits ≤ options.bits) × (options.bits ≤ most_bits)
-  pub budget : (least_budget ≤ options.budget) × (options.budget ≤ most_budget)
-  pub at : AreNumbers (2 ^ options.bits - 1) options.at
-  pub make : IfSome options.make (λ n. (least_made ≤ n) × (n ≤ most_made))
+-- what may be chosen: so many bits and units, numbers of parameters within the limit of the bits, and so many sizes
+pub record AreInRange (b n : ℕ) (numbers : List (Name × ℤ)) (sizes : Option ℕ) : Type 0 where
+  pub bits : (least_bits ≤ b) × (b ≤ most_bits)
+  pub budget : (least_budget ≤ n) × (n ≤ most_budget)
+  pub at : AreNumbers (2 ^ b - 1) numbers
+  pub make : IfSome sizes (λ n. (least_made ≤ n) × (n ≤ most_made))
+
+abbrev pub IsChoice : OptionsView → Type 0
+IsChoice options = AreInRange options.bits options.budget options.at options.make

@@ -2,25 +2,24 @@
 
 ghost use Rattle.std.specs.Prelude.{◌≡◌, IfOk, map, false, string_bytes};
 ghost use Rattle.clap.specs.Words.{app_of, rule_of, rows_of, found_of, matches_of, fault_of, FailsBy};
-ghost use Rattle.isl_words.specs.Table.{bare, table, option_rule, flag_rule};
+ghost use Rattle.isl_words.specs.Taken as spec;
+ghost use Rattle.isl_words.specs.Taken.{bare, rule, with_rows};
 
+use crate::options::TABLE;
 use clap::{Arg, ArgAction, ArgMatches, Command, Error};
 use std::alloc::{AllocError, Global};
 
-// An option with one value, under its own name.
-fn option<'a>(alloc: Global, name: &'a str) -> Arg<'a>
-    ensures rule { rule_of result ≡ option_rule name.now }
+// An option under its own name, with one value or none.
+fn argument<'a>(alloc: Global, name: &'a str, has_value: bool) -> Arg<'a>
+    ensures rule { rule_of result ≡ rule (name.now, has_value) }
     ensures local { result.global ≡ false }
 {
-    Arg::new(alloc, name).long(name).action(ArgAction::Set)
-}
-
-// A flag, under its own name.
-fn flag<'a>(alloc: Global, name: &'a str) -> Arg<'a>
-    ensures rule { rule_of result ≡ flag_rule name.now }
-    ensures local { result.global ≡ false }
-{
-    Arg::new(alloc, name).long(name).action(ArgAction::SetTrue)
+    let action = if has_value {
+        ArgAction::Set
+    } else {
+        ArgAction::SetTrue
+    };
+    Arg::new(alloc, name).long(name).action(action)
 }
 
 // The command with no argument, not even help or version.
@@ -32,22 +31,25 @@ fn bare_command<'a>(alloc: Global) -> Command<'a>
         .disable_version_flag(true)
 }
 
-fn command<'a>(alloc: Global) -> Result<Command<'a>, AllocError>
-    ensures { IfOk result (λ c. app_of c ≡ table) }
+// The command with these options too.
+fn with_options<'a>(
+    alloc: Global,
+    mut command: Command<'a>,
+    mut rows: &[(&'a str, bool)],
+) -> Result<Command<'a>, AllocError>
+    ensures { IfOk result (λ c. app_of c ≡ with_rows (app_of command.entry) (map (λ row. (row.0.now, row.1)) rows.entry.now)) }
 {
-    let bits = option(alloc, "bits");
-    let budget = option(alloc, "budget");
-    let at = option(alloc, "at");
-    let run = flag(alloc, "run");
-    let make = option(alloc, "make");
-    let keep_going = flag(alloc, "keep-going");
-    bare_command(alloc)
-        .arg(bits)?
-        .arg(budget)?
-        .arg(at)?
-        .arg(run)?
-        .arg(make)?
-        .arg(keep_going)
+    while let [row, rest @ ..] = rows {
+        command = command.arg(argument(alloc, row.0, row.1))?;
+        rows = rest;
+    }
+    Ok(command)
+}
+
+fn command<'a>(alloc: Global) -> Result<Command<'a>, AllocError>
+    ensures { IfOk result (λ c. app_of c ≡ spec.command) }
+{
+    with_options(alloc, bare_command(alloc), &TABLE)
 }
 
 /// The values that the words give to the options.
@@ -55,8 +57,8 @@ fn command<'a>(alloc: Global) -> Result<Command<'a>, AllocError>
 /// # Errors
 /// An error that is no want of memory where the words are outside the option table.
 pub fn parse<'a>(alloc: Global, words: &'a [String]) -> Result<ArgMatches<'a>, Error>
-    ensures matches { IfOk result (λ m. rows_of (found_of m) ≡ matches_of table (map string_bytes words.entry.now)) }
-    ensures kinds { FailsBy (fault_of table (map string_bytes words.entry.now)) result }
+    ensures matches { IfOk result (λ m. rows_of (found_of m) ≡ matches_of spec.command (map string_bytes words.entry.now)) }
+    ensures kinds { FailsBy (fault_of spec.command (map string_bytes words.entry.now)) result }
 {
     command(alloc)?.try_get_matches_from(words)
 }

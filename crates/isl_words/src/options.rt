@@ -25,19 +25,31 @@ pub(crate) const MIN_MADE: u128 = 1;
 
 pub(crate) const MAX_MADE: u128 = 1000;
 
-/// What a session works with.
+// The option table: each option's name, and whether a value stands behind it.
+pub(crate) const TABLE: [(&str, bool); 6] = [
+    ("bits", true),
+    ("budget", true),
+    ("at", true),
+    ("run", false),
+    ("make", true),
+    ("keep-going", false),
+];
+
+/// What a session works with. Numbers have magnitudes of at most `2^bits - 1`, and a statement may use `budget` units of work. `at` gives
+/// parameters their numbers where elements are listed and loops are run; `run` asks for the calls of loops in place of their text. `make`
+/// asks for the script that is made for so many sizes, in place of one that is read; `keep_going` asks that refused statements are skipped.
 #[derive(Drop)]
 pub struct Options {
-    bits: u32,
-    budget: u64,
-    at: Vec<(Name, i128)>,
-    run: bool,
-    make: Option<u64>,
-    keep_going: bool,
+    pub(crate) bits: u32,
+    pub(crate) budget: u64,
+    pub(crate) at: Vec<(Name, i128)>,
+    pub(crate) run: bool,
+    pub(crate) make: Option<u64>,
+    pub(crate) keep_going: bool,
 }
 
 impl Model for Options {
-    ghost use Rattle.isl_words.specs.Options.{OptionsView, IsChoice};
+    ghost use Rattle.isl_words.specs.Options.{OptionsView, AreInRange};
 
     ghost Value = { OptionsView };
 
@@ -50,56 +62,10 @@ impl Model for Options {
       keep_going = o.keep_going;
     } };
 
-    ghost invariant = { λ o. IsChoice (record {
-      bits = o.bits;
-      budget = o.budget;
-      at = o.at.items;
-      run = o.run;
-      make = o.make;
-      keep_going = o.keep_going;
-    }) };
+    ghost invariant = { λ o. AreInRange o.bits o.budget o.at.items o.make };
 }
 
 impl Options {
-    /// Numbers have magnitudes of at most `2^bits - 1`, and a statement may use `budget` units of work. `at` gives
-    /// parameters their numbers where elements are listed and loops are run; `run` asks for the calls of loops in
-    /// place of their text. `make` asks for the script that is made for so many sizes, in place of one that is read;
-    /// `keep_going` asks that refused statements are skipped.
-    pub fn new(
-        bits: u32,
-        budget: u64,
-        at: Vec<(Name, i128)>,
-        run: bool,
-        make: Option<u64>,
-        keep_going: bool,
-    ) -> Options
-        requires { IsChoice (record {
-          bits = bits;
-          budget = budget;
-          at = at.items;
-          run = run;
-          make = make;
-          keep_going = keep_going;
-        }) }
-        ensures { result ≡ record {
-          bits = bits;
-          budget = budget;
-          at = at.items;
-          run = run;
-          make = make;
-          keep_going = keep_going;
-        } }
-    {
-        Options {
-            bits,
-            budget,
-            at,
-            run,
-            make,
-            keep_going,
-        }
-    }
-
     /// How many bits the magnitudes of numbers may have.
     pub fn bits(&self) -> u32
         ensures bits { result ≡ self.now.bits }

@@ -1,10 +1,11 @@
 //! What the words of the command line choose.
 
 ghost use Rattle.std.specs.Prelude.{◌≡◌, ◌-◌, ◌<◌, ◌≤◌, ◌^◌, ℕ, ℤ, List, Err, IfOk, IfSome, map, string_bytes};
+ghost use Rattle.std.specs.List.{list_any};
 ghost use Rattle.std.specs.Option.{option_copied};
 ghost use Rattle.clap.specs.Words.{Text, first_of, rows_of, found_of};
 ghost use Rattle.isl_words.specs.Options.{OptionsView, AreNumbers, IsChoice, least_made, most_bits, most_made};
-ghost use Rattle.isl_words.specs.Taken.{AreGiven, AreTaken, Chooses, chosen, is_set, make_of};
+ghost use Rattle.isl_words.specs.Taken.{AreGiven, AreTaken, Chooses, chosen, is_dashes, is_set, make_of};
 
 use crate::binding::read_bindings;
 use crate::command::parse;
@@ -119,19 +120,42 @@ fn options_in(alloc: Global, matches: &ArgMatches<'_>) -> Result<Options, WordsF
     };
     let keep_going_given = value_of(matches, "keep-going");
     let keep_going = is_set(keep_going_given);
-    Ok(Options::new(bits, budget as u64, at, run, make, keep_going))
+    Ok(Options {
+        bits,
+        budget: budget as u64,
+        at,
+        run,
+        make,
+        keep_going,
+    })
+}
+
+fn is_any_dashes(words: &[String]) -> bool
+    ensures { result ≡ list_any (λ word. is_dashes (string_bytes word)) words.now }
+{
+    words.iter().any(|word| word.as_str() == "--")
+}
+
+// Whether one of the words is `--`.
+fn have_dashes(words: &[String]) -> bool
+    ensures { result ≡ list_any is_dashes (map string_bytes words.now) }
+{
+    is_any_dashes(words)
 }
 
 /// What the words of the command line choose, the first of which is the program's name.
 ///
 /// # Errors
-/// `Usage` where the words are outside the option table, or a value is; `NoMemory` where memory ends.
+/// `Usage` where the words are outside the option table, or a value is, or `--` is among them; `NoMemory` where memory ends.
 pub fn read_words(alloc: Global, words: &[String]) -> Result<Options, WordsFault>
     ensures taken { IfOk result (AreTaken (map string_bytes words.now)) }
     ensures usage { result ≡ Err WordsFault.Usage
         → (options : OptionsView) → ¬ (AreTaken (map string_bytes words.now) options) }
 {
     if words.is_empty() {
+        return Err(WordsFault::Usage);
+    }
+    if have_dashes(words) {
         return Err(WordsFault::Usage);
     }
     match parse(alloc, words) {
