@@ -6,3 +6,4 @@ pub mod PartitionLaws
 pub mod RowCases
 pub mod SplitLaws
 pub mod TameLaws
+pub mod WeightLaws

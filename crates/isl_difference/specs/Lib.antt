@@ -4,4 +4,5 @@ pub mod Difference
 pub mod Split
 pub mod Tame
 pub mod Told
+pub mod Weight
 pub use Rattle.isl_difference.specs.Difference

@@ -12,6 +12,6 @@ returns c =
     let points = points_in width count numbers in
     let laid = length-laid_out width points (all-points_in width count numbers c.self.invariant) in
     let size : length numbers ≡ length (laid_out points)
-        = c.self.invariant ∙ ap (λ (n : ℕ). n * width) (sym (length-points_in width count numbers)) ∙ sym laid in
+    = c.self.invariant ∙ ap (λ (n : ℕ). n * width) (sym (length-points_in width count numbers)) ∙ sym laid in
     let own : c.len.result ≡ length numbers = grind (arith, common_steps) in
     own ∙ size ∙ ap (λ (ps : List (List ℤ)). length (laid_out ps)) c.self.view_is
