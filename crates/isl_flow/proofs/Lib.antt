@@ -1,16 +1,3 @@
-pub mod ColumnLaws
-pub mod FlowLaws
-pub mod LastLaws
-pub mod LaterLaws
-pub mod MadeLaws
-pub mod OperandLaws
-pub mod OrderLaws
-pub mod OverLaws
-pub mod PieceLaws
 pub mod SinkLaws
-pub mod SolvedLaws
 pub mod SourceLaws
-pub mod SpreadLaws
-pub mod TimedLaws
 pub mod TurnedLaws
-pub mod WideLaws

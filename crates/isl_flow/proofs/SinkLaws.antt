@@ -26,14 +26,14 @@ use Rattle.isl_images.specs.Made.{elements_of_all, ArePiecesOf, IsPlain}
 use Rattle.isl_images.proofs.MadeLaws.{of_before, of_same, value_has, value_kept, value_plain, value_small}
 use Rattle.isl_images.proofs.ResultLaws.{ok_case, ok_has}
 use Rattle.isl_relation.specs.Wide.{IsFormFault}
-use Rattle.isl_flow.specs.declared.later.Later.{Later}
-use Rattle.isl_flow.specs.declared.precedence.Precedence.{Precedence}
-use Rattle.isl_flow.specs.Last.{HasMap, IsMapElement, IsValueOf, ShowsLast, ShowsLeft, ShowsSink}
-use Rattle.isl_flow.specs.Later.{ComesLater, HasLater, IsLater, IsPlainLater}
-use Rattle.isl_flow.specs.Made.{AreMade}
-use Rattle.isl_flow.specs.Precedence.{Occurrence, HasAt, HasOccurrence, IsPlainPrecedence, IsPrecedence, IsSound, Shows}
+use Rattle.isl_precedence.specs.declared.later.Later.{Later}
+use Rattle.isl_precedence.specs.declared.precedence.Precedence.{Precedence}
+use Rattle.isl_flow.specs.Last.{HasMap, IsMapElement, IsValueOf, ShowsLast, ShowsSink}
+use Rattle.isl_precedence.specs.Later.{ComesLater, HasLater, IsLater, IsPlainLater, ShowsLeft}
+use Rattle.isl_remainder.specs.Made.{AreMade}
+use Rattle.isl_precedence.specs.Precedence.{Occurrence, HasAt, HasOccurrence, IsPlainPrecedence, IsPrecedence, IsSound, Shows}
 use Rattle.isl_flow.specs.Turned.{turned_back}
-use Rattle.isl_flow.proofs.FlowLaws.{pieces_are}
+use Rattle.isl_precedence.proofs.FlowLaws.{pieces_are}
 
 -- ---- the value of the pieces
 pub value_made : (g h : Gauge) (params : List Name) → IsParameterList params → IsCharged g h → (S Simple : Type 0)

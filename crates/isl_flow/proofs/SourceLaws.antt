@@ -15,12 +15,12 @@ use Rattle.isl_union.specs.Minus.{ArePiecesOver}
 use Rattle.isl_images.proofs.ImageLaws.{element_is, same_forms}
 use Rattle.isl_relation.specs.Flow.{IsOverwritten, LastHas, Precedes, UnsourcedHas}
 use Rattle.isl_relation.specs.Point.{Point, IsPoint, map_element}
-use Rattle.isl_flow.specs.declared.precedence.Precedence.{Precedence}
+use Rattle.isl_precedence.specs.declared.precedence.Precedence.{Precedence}
 use Rattle.isl_flow.specs.Last.{IsMapElement, ShowsLast, ShowsSink}
-use Rattle.isl_flow.specs.Later.{with_source, ComesLater}
-use Rattle.isl_flow.specs.Made.{AreMade}
-use Rattle.isl_flow.specs.Precedence.{Occurrence, HasOccurrence, IsAccessed, IsPlainPrecedence, SourcesIn}
-use Rattle.isl_flow.proofs.FlowLaws.{precedes_same}
+use Rattle.isl_precedence.specs.Later.{with_source, ComesLater}
+use Rattle.isl_remainder.specs.Made.{AreMade}
+use Rattle.isl_precedence.specs.Precedence.{Occurrence, HasOccurrence, IsAccessed, IsPlainPrecedence, SourcesIn}
+use Rattle.isl_precedence.proofs.FlowLaws.{precedes_same}
 
 -- an element of a space of maps is x → y
 pub element_parts : (e : Element) → IsElement e → IsMapElement e

@@ -6,13 +6,13 @@ use Rattle.isl_meter.specs.Gauge.{Gauge}
 use Rattle.isl_space.specs.Form.{width_of}
 use Rattle.isl_space.specs.Name.{Name}
 use Rattle.isl_blocks.specs.Blocks.{picked_width, total, IsSpread}
-use Rattle.isl_flow.specs.declared.forms.Forms.{Forms}
-use Rattle.isl_flow.specs.declared.precedence.Precedence.{Precedence}
-use Rattle.isl_flow.specs.Forms.{AreNarrowForms, widths_for}
-use Rattle.isl_flow.specs.Made.{AreMade}
-use Rattle.isl_flow.specs.Precedence.{Occurrence, HasOccurrence, IsAccessed, IsPlainPrecedence, IsPrecedence, LiesIn, blocks_of}
+use Rattle.isl_precedence.specs.declared.forms.Forms.{Forms}
+use Rattle.isl_precedence.specs.declared.precedence.Precedence.{Precedence}
+use Rattle.isl_precedence.specs.Forms.{AreNarrowForms, widths_for}
+use Rattle.isl_remainder.specs.Made.{AreMade}
+use Rattle.isl_precedence.specs.Precedence.{Occurrence, HasOccurrence, IsAccessed, IsPlainPrecedence, IsPrecedence, LiesIn, blocks_of}
 use Rattle.isl_flow.specs.Turned.{turned_back, turned_blocks, AreTurnedForms}
-use Rattle.isl_flow.proofs.TimedLaws.{blocks_wide}
+use Rattle.isl_precedence.proofs.TimedLaws.{blocks_wide}
 
 pub turned_narrow : (f h : Forms) → AreTurnedForms f h → AreNarrowForms f → AreNarrowForms h
 turned_narrow f h turned narrow = record {

@@ -1,5 +1,5 @@
 -- inner: values and pieces of the last sources, and of the sinks without one. (isl manual, dependence analysis)
-use Rattle.std.specs.Prelude.{◌≡◌, ◌↔◌, ℤ, List, All, Any}
+use Rattle.std.specs.Prelude.{◌≡◌, ◌↔◌, List, All, Any}
 use Rattle.isl_meter.specs.Gauge.{Gauge}
 use Rattle.isl_space.specs.Element.{Element}
 use Rattle.isl_space.specs.Form.{Form}
@@ -12,16 +12,13 @@ use Rattle.isl_union.specs.Numbers.{IsWithinLimit}
 use Rattle.isl_images.specs.Made.{IsPlain}
 use Rattle.isl_relation.specs.Flow.{LastHas, UnsourcedHas}
 use Rattle.isl_relation.specs.Point.{map_element}
-use Rattle.isl_blocks.specs.Blocks.{numbers_of}
-use Rattle.isl_flow.specs.declared.forms.Forms.{Forms}
-use Rattle.isl_flow.specs.declared.later.Later.{Later}
 use Rattle.isl_flow.specs.declared.sources.Flow.{Flow}
-use Rattle.isl_flow.specs.declared.operands.Operands.{Operands}
-use Rattle.isl_flow.specs.declared.precedence.Precedence.{Precedence}
-use Rattle.isl_flow.specs.Later.{ComesLater, HasLast}
-use Rattle.isl_flow.specs.Made.{AreMade}
-use Rattle.isl_flow.specs.Precedence.{Occurrence, HasAt, HasOccurrence, IsAccessed, IsPlainPrecedence, LiesIn, SourcesIn, blocks_of}
-use Rattle.isl_flow.specs.WideAccess.{IsWideAccess}
+use Rattle.isl_precedence.specs.declared.operands.Operands.{Operands}
+use Rattle.isl_precedence.specs.declared.precedence.Precedence.{Precedence}
+use Rattle.isl_precedence.specs.Later.{ComesLater}
+use Rattle.isl_remainder.specs.Made.{AreMade}
+use Rattle.isl_precedence.specs.Precedence.{Occurrence, HasAt, HasOccurrence, IsAccessed, IsPlainPrecedence, SourcesIn}
+use Rattle.isl_precedence.specs.WideAccess.{IsWideAccess}
 
 -- an element source → sink of the precedences, where none has a source that comes later
 pub record ShowsLast (params : List Name) (valuation : Valuation) (element : Element) (found : List Precedence) : Type 0 where
@@ -30,22 +27,6 @@ pub record ShowsLast (params : List Name) (valuation : Valuation) (element : Ele
   pub has : Any (HasOccurrence params occurrence) found
   pub last : ¬ Any (ComesLater params occurrence) found
   pub is : element ≡ map_element occurrence.source occurrence.sink
-
--- an element source → sink, at whose numbers, behind which are some of the place and of the times, P holds
-pub record ShowsWith (params : List Name) (f : Forms) (P : List ℤ → Type 0) (valuation : Valuation) (element : Element) : Type 0 where
-  pub occurrence : Occurrence
-  pub at : occurrence.valuation ≡ valuation
-  pub lies : LiesIn f occurrence
-  pub holds : P (numbers_of (blocks_of params occurrence))
-  pub is : element ≡ map_element occurrence.source occurrence.sink
-
--- an element source → sink of the precedence, where none of the later sources comes
-pub record ShowsLeft (params : List Name) (laters : List Later) (valuation : Valuation) (element : Element) (r : Precedence) : Type 0
-  where
-    pub occurrence : Occurrence
-    pub at : occurrence.valuation ≡ valuation
-    pub has : HasLast params laters occurrence r
-    pub is : element ≡ map_element occurrence.source occurrence.sink
 
 -- an element sink → place of the precedences
 pub record ShowsSink (params : List Name) (valuation : Valuation) (element : Element) (found : List Precedence) : Type 0 where

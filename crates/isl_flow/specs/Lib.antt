@@ -1,14 +1,6 @@
-pub mod Forms
 pub mod Last
-pub mod Later
-pub mod Made
-pub mod Operands
-pub mod Over
-pub mod Precedence
-pub mod Solved
-pub mod Spreads
 pub mod Turned
-pub mod WideAccess
+pub use Rattle.isl_precedence.specs.WideAccess
 pub use Rattle.isl_relation.specs.Flow
 pub use Rattle.isl_relation.specs.Formed
 pub use Rattle.isl_relation.specs.Wide

@@ -1,8 +1,8 @@
 -- inner: precedences with the sink, the place and the source where source, sink and place stand.
 use Rattle.std.specs.Prelude.{◌≡◌, ℕ, List, [], ◌∷◌}
 use Rattle.isl_space.specs.Shape.{form_of}
-use Rattle.isl_flow.specs.declared.forms.Forms.{Forms}
-use Rattle.isl_flow.specs.Precedence.{Occurrence}
+use Rattle.isl_precedence.specs.declared.forms.Forms.{Forms}
+use Rattle.isl_precedence.specs.Precedence.{Occurrence}
 
 -- the occurrence whose sink, place and source these are
 abbrev pub turned_back : Occurrence → Occurrence

@@ -1,22 +1,9 @@
-//! Which accesses come before others, and which are the last.
+//! Which accesses are the last before others. It offers which come before others too.
 #![tactic(auto)]
 
-mod before;
-mod equations;
-mod forms;
-mod gathered;
-mod lasts;
-mod later;
-mod live;
-mod operands;
-mod order;
-mod over;
-mod precedence;
 mod sinks;
 mod sources;
-mod spreads;
 mod turned;
-mod wide;
 
-pub use before::any;
+pub use isl_precedence::any;
 pub use sources::{Flow, last};

@@ -7,8 +7,8 @@ ghost use Rattle.isl_space.specs.Names.{IsParameterList};
 ghost use Rattle.isl_union.specs.Fault.{IsMeteredAnswer};
 ghost use Rattle.isl_images.specs.Made.{IsPlain, elements_of_all};
 ghost use Rattle.isl_flow.specs.Last.{HasMap, IsValueOf};
-ghost use Rattle.isl_flow.specs.Made.{AreMade};
-ghost use Rattle.isl_flow.specs.Precedence.{HasAt, IsSound};
+ghost use Rattle.isl_remainder.specs.Made.{AreMade};
+ghost use Rattle.isl_precedence.specs.Precedence.{HasAt, IsSound};
 
 use isl_meter::Meter;
 use isl_piece::Piece;

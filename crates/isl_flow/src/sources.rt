@@ -13,21 +13,19 @@ ghost use Rattle.isl_relation.specs.Formed.{FormsAccess};
 ghost use Rattle.isl_relation.specs.Wide.{PairsTooWide};
 ghost use Rattle.isl_images.specs.Made.{IsPlain};
 ghost use Rattle.isl_flow.specs.Last.{AreFound, AreNarrow, IsFlowOf, ShowsLast, ShowsSink};
-ghost use Rattle.isl_flow.specs.Made.{AreMade};
-ghost use Rattle.isl_flow.specs.Operands.{AreAligned};
-ghost use Rattle.isl_flow.specs.Precedence.{HasAt, IsAccessed, IsPlainPrecedence, IsSound};
-ghost use Rattle.isl_flow.specs.WideAccess.{IsFormed};
+ghost use Rattle.isl_remainder.specs.Made.{AreMade};
+ghost use Rattle.isl_precedence.specs.Operands.{AreAligned};
+ghost use Rattle.isl_precedence.specs.Precedence.{HasAt, IsAccessed, IsPlainPrecedence, IsSound};
+ghost use Rattle.isl_precedence.specs.WideAccess.{IsFormed};
 
-use crate::before::all_pieces_of;
-use crate::lasts::all_lasts;
-use crate::later::all_laters;
-use crate::operands::{Operands, aligned};
-use crate::precedence::{Precedence, precedences};
 use crate::sinks::{maps_in, pieces_without};
 use crate::turned::all_turned;
-use crate::wide::have_wide_access;
 use isl_meter::{Cut, Meter};
 use isl_piece::Piece;
+use isl_precedence::{
+    Operands, Precedence, aligned, all_lasts, all_laters, all_pieces_of, have_wide_access,
+    precedences,
+};
 use isl_space::Params;
 use isl_union::{OpFault, Value};
 use std::alloc::Global;

@@ -1,15 +1,13 @@
 //! Precedences by their sinks.
 
 ghost use Rattle.std.specs.Prelude.{◌≡◌, ◌∷◌, [], All, Any, IfOk};
-ghost use Rattle.isl_meter.specs.Gauge.{Gauge};
-ghost use Rattle.isl_flow.specs.Made.{AreMade};
-ghost use Rattle.isl_flow.specs.Precedence.{HasOccurrence, IsAccessed, IsPlainPrecedence, IsPrecedence};
+ghost use Rattle.isl_remainder.specs.Made.{AreMade};
+ghost use Rattle.isl_precedence.specs.Precedence.{HasOccurrence, IsAccessed, IsPlainPrecedence, IsPrecedence};
 ghost use Rattle.isl_flow.specs.Turned.{turned_back};
 
-use crate::forms::{Forms, widths_for};
-use crate::precedence::Precedence;
 use isl_blocks::spread;
 use isl_meter::Meter;
+use isl_precedence::{Forms, Precedence, widths_for};
 use isl_space::Params;
 use std::alloc::{AllocError, Global};
 

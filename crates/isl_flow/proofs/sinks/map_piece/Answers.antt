@@ -5,9 +5,9 @@ use Rattle.isl_space.specs.Shape.{form_of}
 use Rattle.isl_space.specs.Space.{space_form_of}
 use Rattle.isl_space.specs.SpaceForm.{map_of, set_of}
 use Rattle.isl_flow.specs.Last.{HasMap}
-use Rattle.isl_flow.specs.Made.{AreMade}
-use Rattle.isl_flow.specs.Precedence.{HasAt, IsSound}
-use Rattle.isl_flow.proofs.MadeLaws.{made_nothing}
+use Rattle.isl_remainder.specs.Made.{AreMade}
+use Rattle.isl_precedence.specs.Precedence.{HasAt, IsSound}
+use Rattle.isl_remainder.proofs.MadeLaws.{made_nothing}
 use Rattle.isl_flow.proofs.SinkLaws.{map_made, never_map}
 use Rattle.isl_flow.proofs.sinks.map_piece.Goals as goal
 

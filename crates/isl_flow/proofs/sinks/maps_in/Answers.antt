@@ -2,8 +2,8 @@ use Rattle.std.proofs.Common.{sym, subst, arith, ◌<◌, ◌≤◌, length}
 use Rattle.std.specs.List.{All}
 use Rattle.isl_images.specs.Made.{IsPlain}
 use Rattle.isl_flow.specs.Last.{HasMap}
-use Rattle.isl_flow.specs.Precedence.{HasAt, IsSound}
-use Rattle.isl_flow.proofs.MadeLaws.{made_all, made_more, made_none}
+use Rattle.isl_precedence.specs.Precedence.{HasAt, IsSound}
+use Rattle.isl_remainder.proofs.MadeLaws.{made_all, made_more, made_none}
 use Rattle.isl_flow.proofs.sinks.maps_in.Goals as goal
 
 pub loop-piece-init : goal.loop-piece-init

@@ -4,8 +4,8 @@ use Rattle.isl_meter.specs.Gauge.{Gauge}
 use Rattle.isl_space.specs.Name.{Name}
 use Rattle.isl_images.specs.Made.{IsPlain}
 use Rattle.isl_flow.specs.Last.{HasMap}
-use Rattle.isl_flow.specs.Made.{AreMade}
-use Rattle.isl_flow.specs.Precedence.{HasAt, IsSound}
+use Rattle.isl_remainder.specs.Made.{AreMade}
+use Rattle.isl_precedence.specs.Precedence.{HasAt, IsSound}
 use Rattle.isl_flow.proofs.sinks.maps_in.Given as goal
 
 abbrev pub invariant-loop-piece : goal.invariant-loop-piece

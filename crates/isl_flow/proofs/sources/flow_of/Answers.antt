@@ -7,8 +7,8 @@ use Rattle.isl_union.specs.KeptValue.{Has, HasNoDefinitions}
 use Rattle.isl_images.specs.Made.{elements_of_all, IsPlain}
 use Rattle.isl_relation.specs.Flow.{LastHas, UnsourcedHas}
 use Rattle.isl_flow.specs.Last.{ShowsLast, ShowsSink}
-use Rattle.isl_flow.specs.Precedence.{IsPlainPrecedence}
-use Rattle.isl_flow.proofs.OrderLaws.{accessed_later, sound_later}
+use Rattle.isl_precedence.specs.Precedence.{IsPlainPrecedence}
+use Rattle.isl_precedence.proofs.OrderLaws.{accessed_later, sound_later}
 use Rattle.isl_flow.proofs.SinkLaws.{maps_have, seen_have, value_made, value_same}
 use Rattle.isl_flow.proofs.SourceLaws.{last_same, unsourced_same}
 use Rattle.isl_flow.proofs.sources.flow_of.Goals as goal

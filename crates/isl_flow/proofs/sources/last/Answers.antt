@@ -9,7 +9,7 @@ use Rattle.isl_relation.specs.Formed.{FormsAccess}
 use Rattle.isl_relation.specs.Wide.{PairsTooWide}
 use Rattle.isl_flow.specs.Last.{IsFlowOf}
 use Rattle.isl_flow.proofs.SinkLaws.{formed_cut}
-use Rattle.isl_flow.proofs.WideLaws.{narrow_pairs, wide_exactly}
+use Rattle.isl_precedence.proofs.WideLaws.{narrow_pairs, wide_exactly}
 use Rattle.isl_flow.proofs.sources.last.Goals as goal
 
 pub have_wide_access-requires-clause-sources : goal.have_wide_access-requires-clause-sources

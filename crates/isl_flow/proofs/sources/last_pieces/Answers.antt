@@ -1,12 +1,13 @@
 use Rattle.std.proofs.Common.{get_or}
 use Rattle.std.specs.List.{All, Any}
 use Rattle.isl_images.specs.Made.{IsPlain}
-use Rattle.isl_flow.specs.Last.{ShowsLast, ShowsLeft}
-use Rattle.isl_flow.specs.Later.{IsPlainLater}
-use Rattle.isl_flow.specs.Precedence.{HasAt, IsPlainPrecedence, IsSound}
-use Rattle.isl_flow.proofs.LaterLaws.{later_after}
-use Rattle.isl_flow.proofs.MadeLaws.{made_same}
-use Rattle.isl_flow.proofs.OrderLaws.{precedence_later, sound_before}
+use Rattle.isl_flow.specs.Last.{ShowsLast}
+use Rattle.isl_precedence.specs.Later.{ShowsLeft}
+use Rattle.isl_precedence.specs.Later.{IsPlainLater}
+use Rattle.isl_precedence.specs.Precedence.{HasAt, IsPlainPrecedence, IsSound}
+use Rattle.isl_precedence.proofs.LaterLaws.{later_after}
+use Rattle.isl_remainder.proofs.MadeLaws.{made_same}
+use Rattle.isl_precedence.proofs.OrderLaws.{precedence_later, sound_before}
 use Rattle.isl_flow.proofs.SinkLaws.{last_shown}
 use Rattle.isl_flow.proofs.sources.last_pieces.Goals as goal
 

@@ -2,9 +2,9 @@ use Rattle.std.specs.List.{All, Any}
 use Rattle.std.proofs.lemmas.Result.{IfOk-weaker}
 use Rattle.isl_images.specs.Made.{IsPlain}
 use Rattle.isl_flow.specs.Last.{ShowsSink}
-use Rattle.isl_flow.specs.Made.{AreMade}
-use Rattle.isl_flow.specs.Precedence.{HasAt, IsPlainPrecedence, IsSound, Shows}
-use Rattle.isl_flow.proofs.MadeLaws.{made_same}
+use Rattle.isl_remainder.specs.Made.{AreMade}
+use Rattle.isl_precedence.specs.Precedence.{HasAt, IsPlainPrecedence, IsSound, Shows}
+use Rattle.isl_remainder.proofs.MadeLaws.{made_same}
 use Rattle.isl_flow.proofs.SinkLaws.{sink_shown}
 use Rattle.isl_flow.proofs.sources.sink_pieces.Goals as goal
 

@@ -1,8 +1,8 @@
 use Rattle.std.proofs.Common.{sym, subst, arith, ◌<◌, ◌≤◌, length, [], ◌∷◌}
 use Rattle.std.specs.List.{All}
-use Rattle.isl_flow.specs.Precedence.{HasOccurrence, IsAccessed, IsPlainPrecedence, IsPrecedence}
+use Rattle.isl_precedence.specs.Precedence.{HasOccurrence, IsAccessed, IsPlainPrecedence, IsPrecedence}
 use Rattle.isl_flow.specs.Turned.{turned_back}
-use Rattle.isl_flow.proofs.MadeLaws.{made_all, made_more, made_none}
+use Rattle.isl_remainder.proofs.MadeLaws.{made_all, made_more, made_none}
 use Rattle.isl_flow.proofs.turned.all_turned.Goals as goal
 
 pub turned-requires : goal.turned-requires

@@ -1,7 +1,7 @@
 use Rattle.std.proofs.Common.{take}
 use Rattle.std.specs.List.{All, Any}
-use Rattle.isl_flow.specs.Made.{AreMade}
-use Rattle.isl_flow.specs.Precedence.{HasOccurrence, IsPlainPrecedence, IsPrecedence}
+use Rattle.isl_remainder.specs.Made.{AreMade}
+use Rattle.isl_precedence.specs.Precedence.{HasOccurrence, IsPlainPrecedence, IsPrecedence}
 use Rattle.isl_flow.specs.Turned.{turned_back}
 use Rattle.isl_flow.proofs.turned.all_turned.Given as goal
 

@@ -1,7 +1,7 @@
 use Rattle.std.proofs.Common.{◌∙◌, ap}
 use Rattle.isl_space.specs.Shape.{form_of}
-use Rattle.isl_flow.specs.declared.forms.Forms.{Forms}
-use Rattle.isl_flow.specs.declared.precedence.Precedence.{Precedence}
+use Rattle.isl_precedence.specs.declared.forms.Forms.{Forms}
+use Rattle.isl_precedence.specs.declared.precedence.Precedence.{Precedence}
 use Rattle.isl_flow.specs.Turned.{AreTurnedForms}
 use Rattle.isl_flow.proofs.TurnedLaws.{turned_made, turned_narrow, turned_width}
 use Rattle.isl_flow.proofs.turned.turned.Goals as goal

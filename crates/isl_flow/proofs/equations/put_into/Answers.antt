@@ -1,5 +1,0 @@
-use Rattle.isl_flow.proofs.SolvedLaws.{one_within}
-use Rattle.isl_flow.proofs.equations.put_into.Goals as goal
-
-pub combination-requires-clause-m_within : goal.combination-requires-clause-m_within
-combination-requires-clause-m_within c = one_within c.args.meter.now.bits c.limit-limit.ensures.bits_low

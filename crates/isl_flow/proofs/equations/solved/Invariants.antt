@@ -1,9 +1,0 @@
-use Rattle.std.proofs.Common.{◌≡◌}
-use Rattle.isl_flow.specs.Solved.{AreAlike}
-use Rattle.isl_flow.proofs.equations.solved.Given as goal
-
-abbrev pub invariant-loop-at : goal.invariant-loop-at
-invariant-loop-at l = record {
-  alike : AreAlike l.fn.meter l.fn.system.rows l.rows;
-  meter : l.meter ≡ l.fn.meter;
-}

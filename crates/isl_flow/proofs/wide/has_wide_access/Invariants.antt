@@ -1,7 +1,0 @@
-use Rattle.std.proofs.Common.{take}
-use Rattle.std.specs.List.{Any}
-use Rattle.isl_flow.specs.WideAccess.{IsWideAccess}
-use Rattle.isl_flow.proofs.wide.has_wide_access.Given as goal
-
-abbrev pub invariant-loop-sink : goal.invariant-loop-sink
-invariant-loop-sink l = ¬ Any (λ other. IsWideAccess l.source.space other.space) (take l.sink-index l.sinks)

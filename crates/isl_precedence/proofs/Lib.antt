@@ -1,0 +1,9 @@
+pub mod FlowLaws
+pub mod LastLaws
+pub mod LaterLaws
+pub mod OperandLaws
+pub mod OrderLaws
+pub mod PieceLaws
+pub mod SpreadLaws
+pub mod TimedLaws
+pub mod WideLaws

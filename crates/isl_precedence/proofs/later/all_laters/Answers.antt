@@ -1,0 +1,59 @@
+use Rattle.std.proofs.Common.{refl, sym, subst, arith, ◌<◌, ◌≤◌, length}
+use Rattle.std.specs.List.{All}
+use Rattle.isl_meter.proofs.CutLemmas.{IsCharged_refl, IsCharged_trans}
+use Rattle.isl_remainder.proofs.MadeLaws.{made_all, made_more, made_none}
+use Rattle.isl_precedence.specs.Later.{ComesLater, HasLater, IsLater, IsPlainLater}
+use Rattle.isl_precedence.specs.Precedence.{IsPlainPrecedence, IsPrecedence}
+use Rattle.isl_precedence.proofs.LaterLaws.{later_before}
+use Rattle.isl_precedence.proofs.OrderLaws.{precedence_later}
+use Rattle.isl_precedence.proofs.later.all_laters.Goals as goal
+
+pub laters_of-requires : goal.laters_of-requires
+laters_of-requires c =
+    let low : c.loop-precedence.precedence-index < length c.args.precedences.now = omega arith in
+    record {
+      precedence = precedence_later c.args.meter.now c.loop-precedence.meter c.args.params.now c.precedence-item.result
+          c.loop-precedence.invariant.charged (subst (IsPrecedence c.args.meter.now c.args.params.now) (sym c.precedence-item.is)
+          (c.requires.precedences c.loop-precedence.precedence-index c.precedence-item.result low));
+    }
+
+pub loop-precedence-init : goal.loop-precedence-init
+loop-precedence-init c =
+    let g = c.args.meter.now in
+    let params = c.args.params.now in
+    let items = c.args.precedences.now in
+    record {
+      made = made_none (HasLater params) (IsLater g params) IsPlainLater (All IsPlainPrecedence items) (λ o r. ComesLater params o r)
+          items c.new-made.result.items c.new-made.ensures.items;
+      charged = IsCharged_refl c.args.meter.now c.args.meter.now refl;
+    }
+
+pub loop-precedence-preserved : goal.loop-precedence-preserved
+loop-precedence-preserved c =
+    let g = c.args.meter.now in
+    let h = c.loop-precedence.meter in
+    let params = c.args.params.now in
+    let items = c.args.precedences.now in
+    let i = c.loop-precedence.precedence-index in
+    let item = c.precedence-item.result in
+    let so_far = c.loop-precedence.invariant in
+    let low : i < length items = omega arith in
+    record {
+      made = made_more (HasLater params) (IsLater g params) IsPlainLater (All IsPlainPrecedence items) (λ o r. ComesLater params o r)
+          items i item low c.precedence-item.is (IsLater h params) (IsPlainPrecedence item)
+          (λ o. ComesLater params o item) (λ p is. later_before g h params p so_far.charged is)
+          (λ all. subst IsPlainPrecedence (sym c.precedence-item.is) (all i item low)) (λ o. ((λ x. x), (λ x. x)))
+          c.loop-precedence.made.items c.in_ok-more.more.items c.append_laters.new.laters.items c.in_ok-append_laters.ensures.items so_far.made
+          c.in_ok-more.ensures.made;
+      charged = IsCharged_trans g h c.laters_of.new.meter so_far.charged c.in_ok-more.ensures.meter;
+    }
+
+pub returns-clause-made : goal.returns-clause-made
+returns-clause-made c =
+    let g = c.args.meter.now in
+    let params = c.args.params.now in
+    let items = c.args.precedences.now in
+    let end : length items ≤ c.loop-precedence.precedence-index = omega arith in
+    made_all (HasLater params) (IsLater g params) IsPlainLater (All IsPlainPrecedence items) (λ o r. ComesLater params o r) items
+    c.loop-precedence.precedence-index end c.loop-precedence.made.items
+    c.loop-precedence.invariant.made

@@ -1,0 +1,12 @@
+pub mod Forms
+pub mod Later
+pub mod Operands
+pub mod Precedence
+pub mod Spreads
+pub mod WideAccess
+pub use Rattle.isl_relation.specs.Flow
+pub use Rattle.isl_relation.specs.Formed
+pub use Rattle.isl_relation.specs.Wide
+pub use Rattle.isl_remainder.specs.Made
+pub use Rattle.isl_union.specs.KeptValue
+pub use Rattle.isl_union.specs.Numbers

@@ -1,0 +1,5 @@
+pub mod ColumnLaws
+pub mod LimitLaws
+pub mod MadeLaws
+pub mod OverLaws
+pub mod SolvedLaws
