@@ -1,7 +1,7 @@
 #!/usr/bin/env python3
-"""Unions of one statement or of two, over one parameter, whose loops the program is asked for and runs: whether they call each point that a plain
-search finds, once, and none behind one that is due later. The unions are always the same ones, each drawn by the numbers that its place among
-them begins. No part of the search is shared with the program.
+"""Unions of one statement or of two, over one parameter, whose loops the program is asked for and runs: whether they call each point that
+a plain search finds, once, and none behind one that is due later. The unions are always the same ones, each drawn by the numbers that its
+place among them begins. No part of the search is shared with the program.
 
     bench/called.py PROGRAM
 

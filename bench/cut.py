@@ -1,7 +1,8 @@
 #!/usr/bin/env python3
-"""Where the statements of scripts end: all scripts of at most five of six bytes, and each beginning of some longer ones, one behind another in one
-script, in which each ends what it leaves open and is followed by a statement that is refused with a number of its own kind. What it counts is
-compared with a plain reading: comments are blanked out first, and then each `;` is looked at. No part of that is shared with the program.
+"""Where the statements of scripts end: all scripts of at most five of six bytes, and each beginning of some longer ones, one behind
+another in one script. Behind each stands what ends all that it leaves open, and a statement whose refusal tells how many there were. What
+is counted is compared with a plain reading: comments are blanked out first, and then each `;` is looked at. No part of that is shared
+with the program.
 
     bench/cut.py PROGRAM
 
@@ -14,10 +15,12 @@ import sys
 # With the places of the semicolons that end statements, and whether more than blanks and comments stands behind them.
 KNOWN = [
     ("", [], False), ("a", [], True), (";", [0], False), (" ; \n", [1], False), ("a;b", [1], True), ("a;;b;", [1, 2, 4], False),
-    ("{ [i] : i = 0; [i] : i = 1 };", [28], False), ("([{;}];);x", [8], True), ("(];", [2], False), ("{;", [], True), ("{{};};", [5], False),
+    ("{ [i] : i = 0; [i] : i = 1 };", [28], False), ("([{;}];);x", [8], True), ("(];", [2], False), ("{;", [], True),
+    ("{{};};", [5], False),
     ("];", [1], False), (")(;", [], True), ("}{;}]; ", [5], False), ("# a ; b\n;", [8], False), ("# a ; b", [], False),
     ("{ # }\n;", [], True), ("# {\na;#;", [5], False), ("#;#\n;b", [4], True), ("a;# b\n{ # } ; {\n; };c", [1, 19], True),
-    ("# a # ; here", [], False), ("a # b", [], True), ("{ # }\n};", [7], False), (" \t\r\n", [], False), ("{ };{ };{ };", [3, 7, 11], False),
+    ("# a # ; here", [], False), ("a # b", [], True), ("{ # }\n};", [7], False), (" \t\r\n", [], False),
+    ("{ };{ };{ };", [3, 7, 11], False),
 ]
 
 

@@ -1,6 +1,6 @@
 #!/usr/bin/env python3
-"""Executes printed loops: reads them, and prints their calls where parameters have the numbers that are said, or that the loops take more turns
-than they may. It reads the text alone, and shares nothing with the program.
+"""Executes printed loops: reads them, and prints their calls where parameters have the numbers that are said, or how many turns they take
+if these are more than they may be. It reads the text alone, and shares nothing with the program.
 
     bench/executed.py TURNS NAME=INT,..
 """

@@ -1,7 +1,7 @@
 #!/usr/bin/env python3
-"""Systems of up to seven rows, congruences and floors among them, asked of the program and of a plain search: where some number for one of two
-columns makes them hold, whether they hold anywhere, and a sample. The systems are always the same ones. No part of the search is shared with the
-program.
+"""Systems of up to seven rows, congruences and floors among them, asked of the program and of a plain search: where some number for one
+of two columns makes them hold, whether they hold anywhere, and a sample. The systems are always the same ones. No part of the search is
+shared with the program.
 
     bench/left.py PROGRAM
 
@@ -28,8 +28,8 @@ def plain(at):
 
 
 def floored(at):
-    """Over n and x from -6 to 6: y = floor((a n + b x + c) / k), and z = floor((x + 2 y - 1) / 3) or floor((n + 1) / 2), and three more rows, by
-    the first of which y or z is never out of reach, or always; n or x goes."""
+    """Over n and x from -6 to 6: y = floor((a n + b x + c) / k), z = floor((x + 2 y - 1) / 3) or floor((n + 1) / 2), and three more rows;
+    n or x goes. In a third of them the first of the three asks of y a remainder that is none."""
     a, b, k, c = at % 3 - 1, 2 - at // 3 % 3, 2 + at // 9 % 3, at // 27 % 2
     floors = {"y": (sum_of((a, "n"), (b, "x"), c), k),
               "z": (sum_of((1, "n"), 1), 2) if at // 54 % 2 else (sum_of((1, "x"), (2, "y"), -1), 3)}
