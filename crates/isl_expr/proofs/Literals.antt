@@ -4,9 +4,12 @@ use Rattle.std.proofs.Common.{◌≡◌, List, ◌++◌, refl, ap, ◌∙◌}
 use Rattle.isl_expr.specs.declared.tree.Prefix.{Prefix as Word}
 use Rattle.isl_expr.specs.declared.tree.Link.{Link}
 use Rattle.isl_expr.specs.declared.tree.Postfix.{Postfix}
-use Rattle.isl_expr.specs.declared.tree.Expr.{Expr, Row, Prefix, Any, Last, Post, Row_of-Link, end_of-Link, more_of-Link, Row_of-Postfix, end_of-Postfix, more_of-Postfix, items-the_row-Link, items-the_row-Postfix, items_hidden-the_row-Link-1, items_hidden-the_row-Postfix-2}
+use Rattle.isl_expr.specs.declared.tree.Expr.{Expr, Row, Prefix, Any, Last, Post, Row_of-Link, end_of-Link, more_of-Link, Row_of-Postfix}
+use Rattle.isl_expr.specs.declared.tree.Expr.{end_of-Postfix, more_of-Postfix, items-the_row-Link, items-the_row-Postfix}
+use Rattle.isl_expr.specs.declared.tree.Expr.{items_hidden-the_row-Link-1, items_hidden-the_row-Postfix-2}
 use Rattle.isl_expr.specs.declared.tree.Expr.TheBlock.{hidden-the_row-Expr-0, hidden-the_row-Link-1, hidden-the_row-Postfix-2}
-use Rattle.isl_expr.specs.Expr.{literals_of, literals_in_links, literals_in_postfixes, literals_in_postfix, links_literals, postfixes_literals}
+use Rattle.isl_expr.specs.Expr.{literals_of, literals_in_links, literals_in_postfixes, literals_in_postfix, links_literals}
+use Rattle.isl_expr.specs.Expr.{postfixes_literals}
 
 links_are : (m : Count) (row : Row_of-Link m) → literals_in_links row ≡ links_literals (items-the_row-Link m row)
 links_are m end_of-Link = refl

@@ -31,18 +31,42 @@ prefix_of text = look_up spellings text
 
 -- it makes a value: it moves columns, doubles them or takes them out
 abbrev pub moving : Option ValueKind → Option ValueKind → Bool → Word
-moving set map works =
-    record { of_set = set; of_map = map; asks = Value; moves = true; looks = false; chooses = false; joins = false; works = works }
+moving set map works = record {
+  of_set = set;
+  of_map = map;
+  asks = Value;
+  moves = true;
+  looks = false;
+  chooses = false;
+  joins = false;
+  works = works;
+}
 
 -- it makes a value of the kind of its operand: it looks for something at each valuation, or it chooses, or it puts pieces together
 abbrev pub working : Bool → Bool → Bool → Word
-working looks chooses joins =
-    record { of_set = Some Set; of_map = Some Map; asks = Value; moves = false; looks = looks; chooses = chooses; joins = joins; works = true }
+working looks chooses joins = record {
+  of_set = Some Set;
+  of_map = Some Map;
+  asks = Value;
+  moves = false;
+  looks = looks;
+  chooses = chooses;
+  joins = joins;
+  works = true;
+}
 
 -- it asks for something else, of this kind
 abbrev pub asking : Question → ValueKind → Word
-asking question kind =
-    record { of_set = Some kind; of_map = Some kind; asks = question; moves = false; looks = false; chooses = false; joins = false; works = true }
+asking question kind = record {
+  of_set = Some kind;
+  of_map = Some kind;
+  asks = question;
+  moves = false;
+  looks = false;
+  chooses = false;
+  joins = false;
+  works = true;
+}
 
 abbrev pub word_row : Prefix → Word
 word_row p.Domain = moving None (Some Set) true

@@ -3,6 +3,7 @@ use mathlib.Core.Former.{Count}
 use Rattle.std.proofs.Common.{◌≡◌, ◌∙◌, ◌≤◌, ℕ, Bool, List, [], ◌∷◌, ◌++◌, reverse, Result, refl, sym, ap, subst, arith}
 use Rattle.std.proofs.lemmas.List.{reverse-append, reverse-reverse}
 use Rattle.isl_expr.specs.declared.tree.Stmt.{Stmt}
+use Rattle.isl_expr.specs.declared.tree.Binary.TheVariants.{Gist}
 use Rattle.isl_expr.specs.declared.tree.Prefix.{Prefix as Word}
 use Rattle.isl_expr.specs.declared.tree.Link.{Link}
 use Rattle.isl_expr.specs.declared.tree.Postfix.{Postfix}
@@ -17,7 +18,7 @@ use Rattle.isl_flat.specs.Flat.{settled_row, with_link, begun, ended, past_links
 use Rattle.isl_flat.specs.Flat.{followed_by, followed, behind, unfollowed}
 use Rattle.isl_flat.specs.Size.{size_of_links, size_of_postfixes}
 use Rattle.isl_flat.proofs.SizeLaws.{links_with, postfixes_with}
-use Rattle.isl_flat.specs.Flat.{behind_word, operand_of, Leaves}
+use Rattle.isl_flat.specs.Flat.{behind_word, gist, link_of, named, operand_of, Leaves}
 
 -- ---- what is chosen once
 
@@ -170,3 +171,17 @@ pub fewer_postfixes : (rest new : List Postfix) (postfix : Postfix) (n : ℕ) �
 fewer_postfixes rest new postfix n is few =
     let size = ap size_of_postfixes is ∙ postfixes_with new postfix in
     omega (arith, size, few)
+
+-- ---- `%` between two names
+
+abbrev behind_gist : Expr → Flattened → Partial
+behind_gist left r = record { statements = r.0; first = left; links = link_of Gist r.1 ∷ [] }
+
+pub gist_of : (old one two : List Stmt) (left right first operand : Expr) (none links : List Link) (link : Link)
+    → named (old, left) ≡ (one, first) → named (one, right) ≡ (two, operand) → none ≡ [] → link ≡ link_of Gist operand
+    → links ≡ none ++ link ∷ [] → gist left right old ≡ record { statements = two; first = first; links = links }
+gist_of old one two left right first operand none links link is_first is_operand empty is made =
+    ap (λ (f : Flattened). behind_gist f.1 (named (f.0, right))) is_first
+    ∙ ap (behind_gist first) is_operand
+    ∙ ap (λ (ls : List Link). record { statements = two; first = first; links = ls })
+    (ap (λ (l : Link). l ∷ []) (sym is) ∙ ap (λ (ls : List Link). ls ++ link ∷ []) (sym empty) ∙ sym made)

@@ -1,13 +1,2 @@
 pub mod SizeLaws
 pub mod FlatLaws
-pub mod EachLaws
-pub mod KeptLaws
-pub mod LiteralLaws
-pub mod SimpleLaws
-pub mod ViewLaws
-pub mod ScopeLaws
-pub mod ChosenLaws
-pub mod TypedLaws
-pub mod QuietLaws
-pub mod PutInLaws
-pub mod PutBackLaws

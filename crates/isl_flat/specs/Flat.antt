@@ -1,11 +1,12 @@
 -- public: the simple statements of a statement, in which what is chosen once has a name of its own.
-use Rattle.std.specs.Prelude.{◌≡◌, ℕ, ◌+◌, Bool, true, false, List, [], ◌∷◌, ◌++◌, length, Result, Ok, Err, codes, if◌then◌else◌}
+use Rattle.std.specs.Prelude.{◌≡◌, ℕ, ◌+◌, Bool, true, false, ◌&&◌, ◌||◌, List, [], ◌∷◌, ◌++◌, length, Result, Ok, Err, codes}
+use Rattle.std.specs.Prelude.{if◌then◌else◌}
 use Rattle.std.specs.Fmt.{decimal}
 use Rattle.isl_space.specs.Name.{Name}
 use Rattle.isl_expr.specs.declared.tree.Binary.{Binary}
 use Rattle.isl_expr.specs.declared.tree.Binary.TheVariants as signs
 use Rattle.isl_expr.specs.declared.tree.Prefix.{Prefix}
-use Rattle.isl_expr.specs.declared.tree.Prefix.TheVariants as words
+use Rattle.isl_expr.specs.Words.{word_row}
 use Rattle.isl_expr.specs.declared.tree.Stmt.{Stmt}
 use Rattle.isl_expr.specs.declared.tree.Stmt.TheVariants.{Empty, Bind, Show, Assume}
 use Rattle.isl_expr.specs.declared.tree.Link.{Link}
@@ -62,40 +63,15 @@ is_gist signs.Cross = false
 is_gist signs.Join = false
 
 abbrev pub is_sample : Prefix → Bool
-is_sample words.Domain = false
-is_sample words.Range = false
-is_sample words.Deltas = false
-is_sample words.Identity = false
-is_sample words.Wrap = false
-is_sample words.Unwrap = false
-is_sample words.Zip = false
-is_sample words.DomainMap = false
-is_sample words.RangeMap = false
-is_sample words.LexMin = false
-is_sample words.LexMax = false
-is_sample words.Coalesce = false
-is_sample words.Sample = true
-is_sample words.Scan = false
-is_sample words.Codegen = false
+is_sample word = (word_row word).chooses
 
--- the words whose operands are names
+abbrev pub is_outermost : Standing → Bool
+is_outermost Outermost = true
+is_outermost Inside = false
+
+-- the words whose operands are names: what chooses, and outermost what puts pieces together
 abbrev pub names_operand : Standing → Prefix → Bool
-names_operand standing words.Domain = false
-names_operand standing words.Range = false
-names_operand standing words.Deltas = false
-names_operand standing words.Identity = false
-names_operand standing words.Wrap = false
-names_operand standing words.Unwrap = false
-names_operand standing words.Zip = false
-names_operand standing words.DomainMap = false
-names_operand standing words.RangeMap = false
-names_operand standing words.LexMin = false
-names_operand standing words.LexMax = false
-names_operand Outermost words.Coalesce = true
-names_operand Inside words.Coalesce = false
-names_operand standing words.Sample = true
-names_operand standing words.Scan = false
-names_operand standing words.Codegen = false
+names_operand standing word = (word_row word).chooses || ((word_row word).joins && is_outermost standing)
 
 abbrev pub is_gist_row : {m : _} → Row_of-Link m → Bool
 is_gist_row (more_of-Link operator operand end_of-Link) = is_gist operator

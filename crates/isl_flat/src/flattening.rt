@@ -6,6 +6,7 @@ ghost use Rattle.isl_flat.specs.Flat.{Leaves, LeavesPostfix, LeavesPostfixes, Le
 
 use crate::partial::{Row, is_gist, is_gist_alone, reversed};
 use isl_expr::tree::{Binary, Expr, Link, Postfix, Prefix, Stmt};
+use isl_expr::words::row_of;
 use isl_space::Name;
 use sqlite_items::{Boxed, Items};
 use std::alloc::{AllocError, Global};
@@ -24,23 +25,8 @@ impl Standing {
     fn names_operand(self, word: Prefix) -> bool
         ensures { result ≡ spec.names_operand self word }
     {
-        match word {
-            Prefix::Sample => true,
-            Prefix::Coalesce => matches!(self, Standing::Outermost),
-            Prefix::Domain
-            | Prefix::Range
-            | Prefix::Deltas
-            | Prefix::Identity
-            | Prefix::Wrap
-            | Prefix::Unwrap
-            | Prefix::Zip
-            | Prefix::DomainMap
-            | Prefix::RangeMap
-            | Prefix::LexMin
-            | Prefix::LexMax
-            | Prefix::Scan
-            | Prefix::Codegen => false,
-        }
+        let row = row_of(word);
+        row.chooses || (row.joins && matches!(self, Standing::Outermost))
     }
 }
 
@@ -65,7 +51,7 @@ fn is_chosen(expr: &Expr) -> bool
 {
     match expr {
         Expr::Row(_, links) => is_gist_alone(links.as_slice()),
-        Expr::Prefix(word, _) => matches!(word, Prefix::Sample),
+        Expr::Prefix(word, _) => row_of(*word).chooses,
         Expr::Name(_) | Expr::Literal(_) | Expr::Any(..) | Expr::Last(..) | Expr::Post(..) => false,
     }
 }
@@ -141,6 +127,7 @@ impl Flattening {
     }
 
     // `%` between two names.
+    #[tactic(auto, using(crate::proofs::FlatLaws::gist_of))]
     fn gist(&mut self, left: Expr, right: Expr) -> Result<Row, AllocError>
         ensures { LeavesRow (spec.gist left right self.old) result self.new }
     {

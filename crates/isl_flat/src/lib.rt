@@ -2,8 +2,6 @@
 #![tactic(auto)]
 
 mod flattening;
-mod laws;
 mod partial;
 
 pub use flattening::{SimpleStmt, flatten};
-pub use laws::named_is_put_back;

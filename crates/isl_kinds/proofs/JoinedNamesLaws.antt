@@ -1,6 +1,7 @@
 -- Joined lists of names: no name stands in one twice, and each of two lists is no longer than both joined.
 use mathlib.Core.Former.{Count}
-use Rattle.std.proofs.Common.{◌≡◌, ◌≢◌, ◌∙◌, ◌≤◌, suc, Bool, true, false, List, [], ◌∷◌, ◌++◌, All, length, append_assoc, refl, sym, ap, ap₂}
+use Rattle.std.proofs.Common.{◌≡◌, ◌≢◌, ◌∙◌, ◌≤◌, suc, Bool, true, false, List, [], ◌∷◌, ◌++◌, All, length, append_assoc, refl, sym, ap}
+use Rattle.std.proofs.Common.{ap₂}
 use Rattle.std.proofs.Common.{subst, arith}
 use Rattle.std.specs.Prelude.{if◌then◌else◌, not, ◌||◌, filter}
 use Rattle.std.specs.Cmp.Lexicographic.{nat_list_eq_equiv}

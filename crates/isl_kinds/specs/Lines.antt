@@ -1,5 +1,5 @@
 -- public: the table of kinds: which operands an operation takes, and what it makes of them.
-use Rattle.std.specs.Prelude.{Bool, true, false, ◌&&◌, List, [], ◌∷◌, Option, Some, None, if◌then◌else◌}
+use Rattle.std.specs.Prelude.{Bool, true, false, ◌&&◌, List, [], ◌∷◌, ◌++◌, Option, Some, None, if◌then◌else◌}
 use denote.Enum.Bare.{sameb}
 use Rattle.isl_expr.specs.contracts.tree.ValueKind.{the_type}
 use Rattle.isl_expr.specs.declared.tree.ValueKind.{ValueKind}
@@ -7,7 +7,7 @@ use Rattle.isl_expr.specs.declared.tree.ValueKind.TheVariants.{Set, Map, List as
 use Rattle.isl_expr.specs.declared.tree.Binary.{Binary}
 use Rattle.isl_expr.specs.declared.tree.Binary.TheVariants as b
 use Rattle.isl_expr.specs.declared.tree.Prefix.{Prefix}
-use Rattle.isl_expr.specs.declared.tree.Prefix.TheVariants as p
+use Rattle.isl_expr.specs.Words.{word_row}
 
 -- `==` on kinds
 abbrev pub is_kind : ValueKind → ValueKind → Bool
@@ -71,22 +71,14 @@ by_short_lines [] operand = None
 by_short_lines (line ∷ lines) operand =
     if fits operand line.0 then Some (made (is_kind operand Empty) line.1) else by_short_lines lines operand
 
+-- what a word makes of this kind, if it takes it
+abbrev pub short_line : ValueKind → Option ValueKind → List (ValueKind × ValueKind)
+short_line asked None = []
+short_line asked (Some result) = (asked, result) ∷ []
+
+-- by the table of words
 abbrev pub prefixed : Prefix → ValueKind → Option ValueKind
-prefixed p.Domain = by_short_lines ((Map, Set) ∷ [])
-prefixed p.Range = by_short_lines ((Map, Set) ∷ [])
-prefixed p.Deltas = by_short_lines ((Map, Set) ∷ [])
-prefixed p.Identity = by_short_lines ((Set, Map) ∷ [])
-prefixed p.Wrap = by_short_lines ((Map, Set) ∷ [])
-prefixed p.Unwrap = by_short_lines ((Set, Map) ∷ [])
-prefixed p.Zip = by_short_lines ((Map, Map) ∷ [])
-prefixed p.DomainMap = by_short_lines ((Map, Map) ∷ [])
-prefixed p.RangeMap = by_short_lines ((Map, Map) ∷ [])
-prefixed p.LexMin = by_short_lines ((Set, Set) ∷ (Map, Map) ∷ [])
-prefixed p.LexMax = by_short_lines ((Set, Set) ∷ (Map, Map) ∷ [])
-prefixed p.Coalesce = by_short_lines ((Set, Set) ∷ (Map, Map) ∷ [])
-prefixed p.Sample = by_short_lines ((Set, Set) ∷ (Map, Map) ∷ [])
-prefixed p.Scan = by_short_lines ((Set, Listing) ∷ (Map, Listing) ∷ [])
-prefixed p.Codegen = by_short_lines ((Set, Code) ∷ (Map, Code) ∷ [])
+prefixed word = by_short_lines (short_line Set (word_row word).of_set ++ short_line Map (word_row word).of_map)
 
 abbrev pub inverse : ValueKind → Option ValueKind
 inverse = by_short_lines ((Map, Map) ∷ [])

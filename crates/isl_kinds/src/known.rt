@@ -9,8 +9,8 @@ ghost use Rattle.isl_kinds.specs.Place.{names_at, value_is_known};
 ghost use Rattle.isl_kinds.specs.Typed as types;
 
 use crate::place::{Place, lone};
+use isl_refusal::Refusal;
 use isl_space::Name;
-use isl_text::refusal::Refusal;
 use isl_tree::tree::{
     Binder, Entry, Factor, Formula, Link, Literal, PieceTree, Signed, Term, Tuple,
 };

@@ -1,9 +1,11 @@
 //! The table of kinds: which operands an operation takes, and what it makes of them.
 
-ghost use Rattle.std.specs.Prelude.{◌≡◌};
+ghost use Rattle.std.specs.Prelude.{◌≡◌, ◌++◌};
+ghost use Rattle.isl_expr.specs.declared.tree.ValueKind.TheVariants.{Map, Set};
 ghost use Rattle.isl_kinds.specs.Lines as spec;
 
 use isl_expr::tree::{Binary, Prefix, ValueKind};
+use isl_expr::words::row_of;
 
 // Kinds of two operands, and the kind of what is made of them.
 type Line = (ValueKind, ValueKind, ValueKind);
@@ -98,42 +100,40 @@ fn by_short_lines(lines: &[(ValueKind, ValueKind)], operand: ValueKind) -> Optio
     None
 }
 
+// What is made of an operand, where this is made of a map.
+fn by_map(of_map: Option<ValueKind>, operand: ValueKind) -> Option<ValueKind>
+    ensures { result ≡ spec.by_short_lines (spec.short_line Map of_map) operand }
+{
+    match of_map {
+        Some(kind) if fits(operand, ValueKind::Map) => {
+            Some(made(operand == ValueKind::Empty, kind))
+        }
+        _ => None,
+    }
+}
+
+// What is made of an operand, where this is made of a set, and that of a map.
+fn by_row(
+    of_set: Option<ValueKind>,
+    of_map: Option<ValueKind>,
+    operand: ValueKind,
+) -> Option<ValueKind>
+    ensures { result ≡ spec.by_short_lines (spec.short_line Set of_set ++ spec.short_line Map of_map) operand }
+{
+    match of_set {
+        Some(kind) if fits(operand, ValueKind::Set) => {
+            Some(made(operand == ValueKind::Empty, kind))
+        }
+        _ => by_map(of_map, operand),
+    }
+}
+
 /// The kind of an operand with a word before it, if the word takes it.
 pub fn prefixed(word: Prefix, operand: ValueKind) -> Option<ValueKind>
     ensures { result ≡ spec.prefixed word operand }
 {
-    match word {
-        Prefix::Domain | Prefix::Range | Prefix::Deltas | Prefix::Wrap => {
-            by_short_lines(&[(ValueKind::Map, ValueKind::Set)], operand)
-        }
-        Prefix::Identity | Prefix::Unwrap => {
-            by_short_lines(&[(ValueKind::Set, ValueKind::Map)], operand)
-        }
-        Prefix::Zip | Prefix::DomainMap | Prefix::RangeMap => {
-            by_short_lines(&[(ValueKind::Map, ValueKind::Map)], operand)
-        }
-        Prefix::LexMin | Prefix::LexMax | Prefix::Coalesce | Prefix::Sample => by_short_lines(
-            &[
-                (ValueKind::Set, ValueKind::Set),
-                (ValueKind::Map, ValueKind::Map),
-            ],
-            operand,
-        ),
-        Prefix::Scan => by_short_lines(
-            &[
-                (ValueKind::Set, ValueKind::Listing),
-                (ValueKind::Map, ValueKind::Listing),
-            ],
-            operand,
-        ),
-        Prefix::Codegen => by_short_lines(
-            &[
-                (ValueKind::Set, ValueKind::Code),
-                (ValueKind::Map, ValueKind::Code),
-            ],
-            operand,
-        ),
-    }
+    let row = row_of(word);
+    by_row(row.of_set, row.of_map, operand)
 }
 
 /// The kind of the inverse, if there is one.

@@ -1,5 +1,6 @@
 -- What spells an expression is read again.
-use Rattle.std.proofs.Common.{◌≡◌, ℕ, zero, suc, ◌<◌, Bool, true, false, cond, not, ◌&&◌, List, [], ◌∷◌, ◌++◌, length, Option, Some, None, refl, sym, ap, ◌∙◌, inl, inr, arith}
+use Rattle.std.proofs.Common.{◌≡◌, ℕ, zero, suc, ◌<◌, Bool, true, false, cond, not, ◌&&◌, List, [], ◌∷◌, ◌++◌, length, Option, Some, None}
+use Rattle.std.proofs.Common.{refl, sym, ap, ◌∙◌, inl, inr, arith}
 use Rattle.std.specs.Prelude.{is_some}
 use Rattle.std.proofs.lemmas.List.{append-nil}
 use Rattle.std.proofs.lemmas.Bool.{false≢true}
@@ -16,7 +17,10 @@ use Rattle.isl_token.specs.Reading as r
 use Rattle.isl_token.specs.Spelling.{Grammar}
 use Rattle.isl_token.specs.Spelling as s
 use Rattle.isl_token.proofs.Taking.{both_left, both_right, is_kind_true}
-use Rattle.isl_token.proofs.Again.{Stops, Again, Starts, Follows, Full, Items, always, again_pure, again_map, again_bind, again_skip, again_end, again_number, again_row, follows_pure, follows_starts, follows_always, follows_bind, follows_many, follows_either, starts_bind, starts_either, starts_more, starts_then, starts_with, starts_kind, head_is, head_of_word, full_word, full_bind, full_either}
+use Rattle.isl_token.proofs.Again.{Stops, Again, Starts, Follows, Full, Items, always, again_pure, again_map, again_bind, again_skip}
+use Rattle.isl_token.proofs.Again.{again_end, again_number, again_row, follows_pure, follows_starts, follows_always, follows_bind}
+use Rattle.isl_token.proofs.Again.{follows_many, follows_either, starts_bind, starts_either, starts_more, starts_then, starts_with}
+use Rattle.isl_token.proofs.Again.{starts_kind, head_is, head_of_word, full_word, full_bind, full_either}
 use Rattle.isl_tree.specs.declared.tree.Literal.{Literal}
 use Rattle.isl_formula.specs.FormulaGrammar as formulas
 use Rattle.isl_text.specs.LiteralGrammar as literals
@@ -36,7 +40,8 @@ use Rattle.isl_stmt.specs.declared.operator.Precedence.TheVariants.{Test, Univer
 use Rattle.isl_stmt.specs.declared.word.Role.{Role}
 use Rattle.isl_stmt.specs.declared.word.Role.TheVariants as role
 use Rattle.isl_stmt.specs.Word as words
-use Rattle.isl_stmt.specs.Word.{is_role, head_role, role_of, prefix_of}
+use Rattle.isl_expr.specs.Words.{prefix_of}
+use Rattle.isl_stmt.specs.Word.{is_role, head_role, role_of}
 use Rattle.isl_stmt.specs.Operator as ops
 use Rattle.isl_stmt.specs.Operator.{is_precedence, precedence_of, of_precedence, operator_sign, sees_operator}
 use Rattle.isl_stmt.specs.Expression as read

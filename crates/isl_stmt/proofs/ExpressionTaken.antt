@@ -10,7 +10,8 @@ use Rattle.isl_token.specs.Reading.{Parser, and_then, head_kind, tail}
 use Rattle.isl_token.specs.Reading as r
 use Rattle.isl_token.specs.Spelling.{Grammar}
 use Rattle.isl_token.specs.Spelling as s
-use Rattle.isl_token.proofs.Taking.{TakesAt, Takes, takes_pure, takes_none, takes_bind, takes_map, takes_past, takes_end, takes_or_left, takes_or_right, takes_peek, takes_number, takes_row, chosen, same_read}
+use Rattle.isl_token.proofs.Taking.{TakesAt, Takes, takes_pure, takes_none, takes_bind, takes_map, takes_past, takes_end, takes_or_left}
+use Rattle.isl_token.proofs.Taking.{takes_or_right, takes_peek, takes_number, takes_row, chosen, same_read}
 use Rattle.isl_tree.specs.declared.tree.Literal.{Literal}
 use Rattle.isl_text.specs.Literal.{literal, literal_grammar}
 use Rattle.isl_text.proofs.LiteralLaws.{literal_taken}

@@ -5,7 +5,7 @@ use Rattle.isl_text.specs.Limits.{is_within}
 use Rattle.isl_expr.specs.declared.tree.Expr.{Expr}
 use Rattle.isl_kinds.specs.Parts.{Part, parts_of}
 use Rattle.isl_kinds.specs.Parts as part
-use Rattle.isl_flat.proofs.LiteralLaws.{among_is, literals_among}
+use Rattle.isl_flat_law.proofs.LiteralLaws.{among_is, literals_among}
 use Rattle.isl_stmt.specs.Limits.{expression_is_within, is_too_great}
 
 among_within : (parts : List Part) → not (list_any is_too_great parts) ≡ list_all is_within (literals_among parts)

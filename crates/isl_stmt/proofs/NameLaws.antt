@@ -26,8 +26,8 @@ use Rattle.isl_formula.proofs.SpelledLaws.{Has, whatever, pure_has, bind_has, th
 use Rattle.isl_kinds.specs.Parts.{Part, parts_of, parts_of_links, parts_of_postfix, parts_of_postfixes}
 use Rattle.isl_kinds.specs.Typed.{is_dollar}
 use Rattle.isl_flat.specs.Simple.{names_dollar}
-use Rattle.isl_flat.proofs.EachLaws.{Each, each_both, quiet_each, each_Row, each_Post, each_Prefix, each_Any, each_Last}
-use Rattle.isl_pset.specs.PsetGrammar.{pset_grammar}
+use Rattle.isl_flat_law.proofs.EachLaws.{Each, each_both, quiet_each, each_Row, each_Post, each_Prefix, each_Any, each_Last}
+use Rattle.isl_text.specs.PsetGrammar.{pset_grammar}
 use Rattle.isl_stmt.specs.declared.expression.Flow.{Flow}
 use Rattle.isl_stmt.specs.declared.expression.Flow.TheVariants as flow
 use Rattle.isl_stmt.specs.declared.operator.Precedence.{Precedence}

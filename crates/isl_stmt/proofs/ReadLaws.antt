@@ -1,5 +1,6 @@
 -- When each answer of reading a statement comes.
-use Rattle.std.proofs.Common.{◌≡◌, ◌≢◌, ℕ, ℤ, ◌<◌, ◌≤◌, true, false, List, length, Some, None, Result, Ok, Err, refl, sym, ap, subst, ◌∙◌, inl, inr, arith}
+use Rattle.std.proofs.Common.{◌≡◌, ◌≢◌, ℕ, ℤ, ◌<◌, ◌≤◌, true, false, List, length, Some, None, Result, Ok, Err, refl, sym, ap, subst, ◌∙◌}
+use Rattle.std.proofs.Common.{inl, inr, arith}
 use Rattle.std.specs.Prelude.{◌⊎◌}
 use Rattle.std.proofs.lemmas.Bool.{true≢false}
 use Rattle.isl_token.specs.TokenView.{Token}
@@ -11,9 +12,9 @@ use Rattle.isl_token.specs.Lex.{tokens}
 use Rattle.isl_token.specs.Reading.{Reads}
 use Rattle.isl_token.specs.Spelling.{Spells, SpellsOne, Gives}
 use Rattle.isl_token.proofs.Whole.{spells_one, found_whole, over_only, fails_only}
-use Rattle.isl_text.specs.declared.refusal.Refusal.{Refusal}
-use Rattle.isl_text.specs.declared.refusal.Refusal.TheVariants.{Syntax, TooDeep, NoMemory}
-use Rattle.isl_text.specs.Refusal.{of_fault}
+use Rattle.isl_refusal.specs.declared.refusal.Refusal.{Refusal}
+use Rattle.isl_refusal.specs.declared.refusal.Refusal.TheVariants.{Syntax, TooDeep, NoMemory}
+use Rattle.isl_token.specs.Fault.{of_fault}
 use Rattle.isl_text.specs.Read as text
 use Rattle.isl_expr.specs.declared.tree.Stmt.{Stmt}
 use Rattle.isl_stmt.specs.Statement.{statement}

@@ -1,5 +1,6 @@
 -- What spells a statement is read again.
-use Rattle.std.proofs.Common.{◌≡◌, ℕ, suc, ◌<◌, Bool, true, false, ◌&&◌, List, [], ◌∷◌, ◌++◌, length, Some, refl, sym, ap, ◌∙◌, inl, inr, arith, length-append}
+use Rattle.std.proofs.Common.{◌≡◌, ℕ, suc, ◌<◌, Bool, true, false, ◌&&◌, List, [], ◌∷◌, ◌++◌, length, Some, refl, sym, ap, ◌∙◌, inl, inr}
+use Rattle.std.proofs.Common.{arith, length-append}
 use Rattle.std.specs.Prelude.{nat_eq}
 use Rattle.std.proofs.lemmas.List.{append-nil}
 use Rattle.std.proofs.lemmas.Bool.{false≢true, false_from_ne_true, eqb-true}
@@ -10,14 +11,15 @@ use Rattle.isl_token.specs.Token.{Text, is_kind, kind_of}
 use Rattle.isl_token.specs.Reading.{Parser, head_kind, second_kind, expect}
 use Rattle.isl_token.specs.Reading as r
 use Rattle.isl_token.proofs.Taking.{same_read, both_left, both_right, is_kind_true, is_kind_same}
-use Rattle.isl_token.proofs.Again.{Stops, Again, Starts, Full, always, again_map, again_bind, again_after, follows_always, full_bind, starts_bind}
+use Rattle.isl_token.proofs.Again.{Stops, Again, Starts, Full, always, again_map, again_bind, again_after, follows_always, full_bind}
+use Rattle.isl_token.proofs.Again.{starts_bind}
 use Rattle.isl_expr.specs.declared.tree.Expr.{Expr}
 use Rattle.isl_expr.specs.declared.tree.Expr.TheVariants as e
 use Rattle.isl_expr.specs.declared.tree.Stmt.{Stmt}
 use Rattle.isl_expr.specs.declared.tree.Stmt.TheVariants.{Bind, Show, Assume}
-use Rattle.isl_pset.specs.Pset.{pset}
-use Rattle.isl_pset.specs.PsetGrammar.{pset_grammar}
-use Rattle.isl_pset.proofs.PsetLaws.{pset_again}
+use Rattle.isl_text.specs.Pset.{pset}
+use Rattle.isl_text.specs.PsetGrammar.{pset_grammar}
+use Rattle.isl_text.proofs.PsetLaws.{pset_again}
 use Rattle.isl_stmt.specs.declared.word.Role.{Role}
 use Rattle.isl_stmt.specs.declared.word.Role.TheVariants as role
 use Rattle.isl_stmt.specs.Word as words
@@ -27,7 +29,8 @@ use Rattle.isl_stmt.specs.ExpressionGrammar as exprs
 use Rattle.isl_stmt.specs.Statement as read
 use Rattle.isl_stmt.specs.StatementGrammar as spell
 use Rattle.isl_stmt.proofs.Words.{is_role_true, is_role_same}
-use Rattle.isl_stmt.proofs.ExpressionAgain.{closing_over, again_variable, again_said, begins_expr, at_expr, expression_again, expression_starts, expression_full, variable_full, said_full, name_is_expression}
+use Rattle.isl_stmt.proofs.ExpressionAgain.{closing_over, again_variable, again_said, begins_expr, at_expr, expression_again}
+use Rattle.isl_stmt.proofs.ExpressionAgain.{expression_starts, expression_full, variable_full, said_full, name_is_expression}
 
 -- nothing is left
 abbrev pub over : Stops

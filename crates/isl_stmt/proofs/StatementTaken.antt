@@ -11,9 +11,9 @@ use Rattle.isl_token.proofs.Taking.{TakesAt, Takes, takes_pure, takes_bind, take
 use Rattle.isl_tree.specs.declared.tree.Literal.{Literal}
 use Rattle.isl_expr.specs.declared.tree.Expr.{Expr}
 use Rattle.isl_expr.specs.declared.tree.Stmt.TheVariants.{Empty, Bind, Show, Assume}
-use Rattle.isl_pset.specs.Pset.{pset}
-use Rattle.isl_pset.specs.PsetGrammar.{pset_grammar}
-use Rattle.isl_pset.proofs.PsetLaws.{pset_taken}
+use Rattle.isl_text.specs.Pset.{pset}
+use Rattle.isl_text.specs.PsetGrammar.{pset_grammar}
+use Rattle.isl_text.proofs.PsetLaws.{pset_taken}
 use Rattle.isl_stmt.specs.declared.word.Role.{Role}
 use Rattle.isl_stmt.specs.declared.word.Role.TheVariants as role
 use Rattle.isl_stmt.specs.Word as words

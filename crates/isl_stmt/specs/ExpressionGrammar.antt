@@ -20,7 +20,8 @@ use Rattle.isl_stmt.specs.declared.operator.Precedence.{Precedence}
 use Rattle.isl_stmt.specs.declared.operator.Precedence.TheVariants.{Test, Universal, Sum, Product, Join}
 use Rattle.isl_stmt.specs.declared.word.Role.{Role}
 use Rattle.isl_stmt.specs.declared.word.Role.TheVariants as role
-use Rattle.isl_stmt.specs.Word.{role_of, prefix_of}
+use Rattle.isl_expr.specs.Words.{prefix_of}
+use Rattle.isl_stmt.specs.Word.{role_of}
 use Rattle.isl_stmt.specs.Operator.{operator_of, of_precedence}
 use Rattle.isl_stmt.specs.Expression.{make_link, row_of, post_of, dependence}
 

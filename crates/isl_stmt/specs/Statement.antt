@@ -8,7 +8,7 @@ use Rattle.isl_tree.specs.declared.tree.Literal.{Literal}
 use Rattle.isl_expr.specs.declared.tree.Expr.{Expr}
 use Rattle.isl_expr.specs.declared.tree.Stmt.{Stmt}
 use Rattle.isl_expr.specs.declared.tree.Stmt.TheVariants.{Empty, Bind, Show, Assume}
-use Rattle.isl_pset.specs.Pset.{pset}
+use Rattle.isl_text.specs.Pset.{pset}
 use Rattle.isl_stmt.specs.declared.word.Role.{Role}
 use Rattle.isl_stmt.specs.declared.word.Role.TheVariants as role
 use Rattle.isl_stmt.specs.Word.{is_role, head_role, variable}

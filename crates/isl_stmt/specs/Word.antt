@@ -1,6 +1,5 @@
 -- public: what a word is outside literals.
 use Rattle.std.specs.Prelude.{Bool, List, [], ◌∷◌, Option, Some, None, codes, if◌then◌else◌}
-use Rattle.std.specs.Str.{bytes_eq}
 use denote.Enum.Bare.{sameb}
 use Rattle.isl_token.specs.TokenView.{Token}
 use Rattle.isl_token.specs.TokenView as token
@@ -8,33 +7,17 @@ use Rattle.isl_token.specs.Token.{Text}
 use Rattle.isl_token.specs.AnyWord.{any_word}
 use Rattle.isl_token.specs.Reading.{Parser, ◌>>◌, pure, none, tail, skip}
 use Rattle.isl_expr.specs.declared.tree.Prefix.{Prefix}
-use Rattle.isl_expr.specs.declared.tree.Prefix.TheVariants.{Domain, Range, Deltas, Identity, Wrap, Unwrap, Zip, DomainMap, RangeMap, LexMin, LexMax, Coalesce, Sample, Scan, Codegen}
+use Rattle.isl_expr.specs.Words.{look_up, prefix_of}
 use Rattle.isl_stmt.specs.contracts.word.Role.{the_type}
 use Rattle.isl_stmt.specs.declared.word.Role.{Role}
 use Rattle.isl_stmt.specs.declared.word.Role.TheVariants as role
 
--- what a table has for a text
-abbrev pub look_up : {A : Type 0} → List (Text × A) → Text → Option A
-look_up [] text = None
-look_up (entry ∷ entries) text = if bytes_eq entry.0 text then Some entry.1 else look_up entries text
-
--- the words that stand before an operand
-abbrev pub prefixes : List (Text × Prefix)
-prefixes =
-    (codes "dom", Domain) ∷ (codes "domain", Domain) ∷ (codes "ran", Range) ∷ (codes "range", Range) ∷ (codes "deltas", Deltas)
-    ∷ (codes "identity", Identity) ∷ (codes "wrap", Wrap) ∷ (codes "unwrap", Unwrap) ∷ (codes "zip", Zip)
-    ∷ (codes "domain_map", DomainMap) ∷ (codes "range_map", RangeMap) ∷ (codes "lexmin", LexMin) ∷ (codes "lexmax", LexMax)
-    ∷ (codes "coalesce", Coalesce) ∷ (codes "sample", Sample) ∷ (codes "scan", Scan) ∷ (codes "codegen", Codegen) ∷ []
-
--- the other words that are no names
+-- the words beside those of the table that are no names
 abbrev pub keywords : List (Text × Role)
 keywords =
     (codes "print", role.Print) ∷ (codes "any", role.Any) ∷ (codes "last", role.Last) ∷ (codes "before", role.Before)
     ∷ (codes "under", role.Under) ∷ (codes "cross", role.Cross) ∷ (codes "assume", role.Assume) ∷ (codes "pip", role.Reserved)
     ∷ (codes "aff", role.Reserved) ∷ []
-
-unfoldable pub prefix_of : Text → Option Prefix
-prefix_of word = look_up prefixes word
 
 unfoldable pub keyword_of : Text → Option Role
 keyword_of word = look_up keywords word

@@ -2,8 +2,8 @@
 
 ghost use Rattle.std.specs.Prelude.{◌≡◌, ◌⊎◌, ◌≤ℤ◌, Result, Err, pos};
 ghost use Rattle.isl_token.specs.Spelling.{SpellsOne};
-ghost use Rattle.isl_text.specs.declared.refusal.Refusal.TheVariants.{NoMemory};
-ghost use Rattle.isl_text.specs.declared.refusal.Refusal as refusals;
+ghost use Rattle.isl_refusal.specs.declared.refusal.Refusal.TheVariants.{NoMemory};
+ghost use Rattle.isl_refusal.specs.declared.refusal.Refusal as refusals;
 ghost use Rattle.isl_expr.specs.declared.tree.Stmt as trees;
 ghost use Rattle.isl_stmt.specs.StatementGrammar.{statement_grammar};
 ghost use Rattle.isl_stmt.specs.Read as spec;
@@ -11,8 +11,8 @@ ghost use Rattle.isl_stmt.specs.Read as spec;
 use crate::limits::statement_is_within;
 use crate::statement::statement;
 use isl_expr::tree::Stmt;
+use isl_refusal::Refusal;
 use isl_text::read::tokens;
-use isl_text::refusal::Refusal;
 use isl_text::wide::has_wide_number;
 use isl_token::{Cursor, Fault, Tokens, is_too_deep};
 use std::alloc::Global;

@@ -2,14 +2,14 @@
 
 ghost use Rattle.std.specs.Prelude.{◌≡◌};
 ghost use Rattle.isl_token.specs.Reading.{Reads};
-ghost use Rattle.isl_pset.specs.Pset as sets;
+ghost use Rattle.isl_text.specs.Pset as sets;
 ghost use Rattle.isl_stmt.specs.Expression as expressions;
 ghost use Rattle.isl_stmt.specs.Statement as spec;
 
 use crate::expression::expression;
 use crate::word::{Role, next_role, variable};
 use isl_expr::tree::Stmt;
-use isl_pset::pset::pset;
+use isl_text::pset::pset;
 use isl_token::{Cursor, Fault, Kind};
 use std::alloc::Global;
 

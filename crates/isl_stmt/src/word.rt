@@ -1,11 +1,12 @@
 //! What a word is outside literals.
 
-ghost use Rattle.std.specs.Prelude.{◌≡◌, map};
+ghost use Rattle.std.specs.Prelude.{◌≡◌};
 ghost use Rattle.isl_token.specs.AnyWord.{any_word};
 ghost use Rattle.isl_token.specs.Reading.{Reads};
 ghost use Rattle.isl_stmt.specs.Word as spec;
 
 use isl_expr::tree::Prefix;
+use isl_expr::words::{look_up, prefix_of};
 use isl_space::Name;
 use isl_token::{Cursor, Fault};
 use std::alloc::Global;
@@ -29,26 +30,6 @@ pub enum Role {
     Reserved,
 }
 
-const PREFIXES: [(&[u8], Prefix); 17] = [
-    (b"dom", Prefix::Domain),
-    (b"domain", Prefix::Domain),
-    (b"ran", Prefix::Range),
-    (b"range", Prefix::Range),
-    (b"deltas", Prefix::Deltas),
-    (b"identity", Prefix::Identity),
-    (b"wrap", Prefix::Wrap),
-    (b"unwrap", Prefix::Unwrap),
-    (b"zip", Prefix::Zip),
-    (b"domain_map", Prefix::DomainMap),
-    (b"range_map", Prefix::RangeMap),
-    (b"lexmin", Prefix::LexMin),
-    (b"lexmax", Prefix::LexMax),
-    (b"coalesce", Prefix::Coalesce),
-    (b"sample", Prefix::Sample),
-    (b"scan", Prefix::Scan),
-    (b"codegen", Prefix::Codegen),
-];
-
 const KEYWORDS: [(&[u8], Role); 9] = [
     (b"print", Role::Print),
     (b"any", Role::Any),
@@ -60,26 +41,6 @@ const KEYWORDS: [(&[u8], Role); 9] = [
     (b"pip", Role::Reserved),
     (b"aff", Role::Reserved),
 ];
-
-/// What the table has for the text.
-fn look_up<A: Copy>(mut table: &[(&[u8], A)], text: &[u8]) -> Option<A>
-    ensures { result ≡ spec.look_up (map (λ k. (k.0.now, k.1)) table.entry.now) text.now }
-{
-    while let [entry, rest @ ..] = table {
-        if entry.0 == text {
-            return Some(entry.1);
-        }
-        table = rest;
-    }
-    None
-}
-
-#[tactic(auto, unfolding(crate::specs::Word::prefix_of))]
-fn prefix_of(word: &[u8]) -> Option<Prefix>
-    ensures { result ≡ spec.prefix_of word.now }
-{
-    look_up(&PREFIXES, word)
-}
 
 #[tactic(auto, unfolding(crate::specs::Word::keyword_of))]
 fn keyword_of(word: &[u8]) -> Option<Role>

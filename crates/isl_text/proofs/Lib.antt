@@ -7,6 +7,10 @@ pub mod LiteralAgain
 pub mod LiteralLaws
 pub mod LiteralTaken
 pub mod Missing
+pub mod PsetAgain
+pub mod PsetLaws
+pub mod PsetSpelled
+pub mod PsetTaken
 pub mod ReadLaws
 pub mod SameNames
 pub mod TupleAgain

@@ -5,8 +5,10 @@ pub mod Formed
 pub mod Literal
 pub mod Bound
 pub mod Limits
-pub mod Refusal
+pub mod Pset
+pub mod PsetGrammar
 pub mod Read
+pub mod Forms
 pub use Rattle.isl_token.specs.Depth
 pub use Rattle.isl_token.specs.Lex
 pub use Rattle.isl_token.specs.Reading
@@ -15,3 +17,4 @@ pub use Rattle.isl_token.specs.Token
 pub use Rattle.isl_token.specs.TokenView
 pub use Rattle.isl_formula.specs.FormulaGrammar
 pub use Rattle.isl_formula.specs.TermGrammar
+pub use Rattle.isl_refusal.specs.Refusal

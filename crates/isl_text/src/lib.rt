@@ -1,4 +1,4 @@
-//! Literals of sets and maps: how tokens spell them, their limits, and why a text is refused.
+//! Literals of sets and maps, and parameter sets: how tokens spell them, their limits, and why a text is refused.
 #![tactic(auto)]
 
 pub mod bound;
@@ -6,7 +6,9 @@ pub mod formed;
 pub mod limits;
 pub mod literal;
 pub mod piece;
+pub mod pset;
 pub mod read;
-pub mod refusal;
 pub mod tuple;
 pub mod wide;
+
+pub use isl_refusal::Refusal;

@@ -43,7 +43,11 @@ fn ends_piece(kind: Kind) -> bool
 }
 
 /// The formula after `:`, which may be missing.
-fn body(alloc: Global, tokens: &mut Cursor<'_>, depth: usize) -> Result<Option<Formula>, Fault>
+pub(crate) fn body(
+    alloc: Global,
+    tokens: &mut Cursor<'_>,
+    depth: usize,
+) -> Result<Option<Formula>, Fault>
     ensures { Reads (spec.body (formulas.formula depth) tokens.old) result tokens.new }
 {
     if ends_piece(tokens.peek()) {
@@ -165,7 +169,7 @@ fn declared(alloc: Global, tokens: &mut Cursor<'_>) -> Result<Items<Name>, Fault
 }
 
 /// The parameters of a literal, whose list may be missing.
-fn parameters(alloc: Global, tokens: &mut Cursor<'_>) -> Result<Items<Name>, Fault>
+pub(crate) fn parameters(alloc: Global, tokens: &mut Cursor<'_>) -> Result<Items<Name>, Fault>
     ensures { Reads (spec.parameters tokens.old) result tokens.new }
 {
     if tokens.sees(Kind::OpenSquare) {

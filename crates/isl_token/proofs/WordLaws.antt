@@ -1,10 +1,14 @@
 -- Tables of words.
-use Rattle.std.proofs.Common.{◌≡◌, ℕ, ◌<◌, ◌≤◌, Bool, true, false, cond, List, [], ◌∷◌, length, refl, sym, ap, subst, arith}
-use Rattle.std.specs.Prelude.{◌||◌, nat_lt}
+use Rattle.std.proofs.Common.{◌≡◌, ℕ, ◌<◌, ◌≤◌, Bool, true, false, cond, List, [], ◌∷◌, ◌++◌, length, map, refl, sym, ap, subst, arith}
+use Rattle.std.proofs.Common.{◌∙◌, Option, Some, None}
+use Rattle.std.specs.Prelude.{◌||◌, nat_lt, codes, is_some}
 use Rattle.std.specs.List.{list_any, list_all}
 use Rattle.std.specs.Str.{bytes_eq}
-use Rattle.std.proofs.lemmas.Bool.{and_parts, ltb-true}
+use Rattle.std.proofs.lemmas.Bool.{and_parts, ltb-true, false≢true}
+use Rattle.std.proofs.lemmas.List.Folds.{list_any-append}
 use Rattle.std.proofs.lemmas.Slice.Eq.{bytes_eq-Decides}
+use Rattle.isl_expr.specs.declared.tree.Prefix.{Prefix}
+use Rattle.isl_expr.specs.Words.{spellings, look_up, prefix_of}
 use Rattle.isl_token.specs.declared.token.Kind.{Kind}
 use Rattle.isl_token.specs.declared.token.Kind.TheVariants as kind
 use Rattle.isl_token.specs.Token.{Text, kind_in, word_kinds, word_kind}
@@ -76,3 +80,63 @@ too_short least (t ∷ texts) text all short =
 pub two_letters : (word : Text) → length word ≤ 2 → false ≡ is_stacking_word word
 unfolding stacking_words
 two_letters word short = sym (too_short 2 stacking_words word refl short)
+
+-- ---- a word stacks where the table has it, or it is one of four
+
+same_word : (a b : Text) → bytes_eq a b ≡ bytes_eq b a
+same_word a b = by (bytes_eq a b) (bytes_eq b a) refl refl
+  where
+    by : (p q : Bool) → bytes_eq a b ≡ p → bytes_eq b a ≡ q → p ≡ q
+    by true true one two = refl
+    by false false one two = refl
+    by true false one two = absurd (false≢true (sym two ∙ (bytes_eq-Decides b a).1 (sym ((bytes_eq-Decides a b).0 one))))
+    by false true one two = absurd (false≢true (sym one ∙ (bytes_eq-Decides a b).1 (sym ((bytes_eq-Decides b a).0 two))))
+
+-- a table has an entry for a text that is one of its texts
+has_entry : {A : Type 0} (table : List (Text × A)) (text : Text)
+    → is_some (look_up table text) ≡ list_any (bytes_eq text) (map (λ e. e.0) table)
+has_entry [] text = refl
+has_entry (entry ∷ entries) text = by (bytes_eq entry.0 text) (bytes_eq text entry.0) (same_word entry.0 text) (has_entry entries text)
+  where
+    by : (p q : Bool) → p ≡ q → is_some (look_up entries text) ≡ list_any (bytes_eq text) (map (λ e. e.0) entries)
+        → is_some (cond p (Some entry.1) (look_up entries text)) ≡ (q || list_any (bytes_eq text) (map (λ e. e.0) entries))
+    by true true one rest = refl
+    by false false one rest = rest
+    by true false one rest = absurd (false≢true (sym one))
+    by false true one rest = absurd (false≢true one)
+
+-- two texts in front of others and two behind them
+around : (test : Text → Bool) (a b c d : Text) (texts : List Text) (p : Bool) → p ≡ list_any test texts
+    → (p || list_any test (a ∷ b ∷ c ∷ d ∷ [])) ≡ list_any test (a ∷ b ∷ (texts ++ c ∷ d ∷ []))
+around test a b c d texts p is =
+    by p (test a) (test b) (list_any test (c ∷ d ∷ [])) ∙ ap (λ q. test a || (test b || q))
+    (ap (λ q. q || list_any test (c ∷ d ∷ [])) is ∙ sym (list_any-append test texts (c ∷ d ∷ [])))
+  where
+    by : (p a b rest : Bool) → (p || (a || (b || rest))) ≡ (a || (b || (p || rest)))
+    by true true b rest = refl
+    by true false true rest = refl
+    by true false false rest = refl
+    by false a b rest = refl
+
+all_listed : (word : Text)
+    → (is_some (prefix_of word) || list_any (bytes_eq word) (codes "not" ∷ codes "exists" ∷ codes "any" ∷ codes "last" ∷ []))
+    ≡ is_stacking_word word
+unfolding stacking_words prefix_of
+all_listed word =
+    around (bytes_eq word) (codes "not") (codes "exists") (codes "any") (codes "last") (map (λ e. e.0) spellings) _
+    (has_entry spellings word)
+
+pub in_table : (word : Text) (found : Prefix) → Some found ≡ prefix_of word → true ≡ is_stacking_word word
+in_table word found is =
+    ap (λ o. is_some o || list_any (bytes_eq word) (codes "not" ∷ codes "exists" ∷ codes "any" ∷ codes "last" ∷ [])) is ∙ all_listed word
+
+abbrev no_prefix : Option Prefix
+no_prefix = None
+
+pub not_in_table : (word : Text) (other : Bool) → no_prefix ≡ prefix_of word
+    → other ≡ list_any (bytes_eq word) (codes "not" ∷ codes "exists" ∷ codes "any" ∷ codes "last" ∷ []) → other ≡ is_stacking_word word
+not_in_table word other is of_other =
+    of_other
+    ∙ ap (λ o. is_some o || list_any (bytes_eq word) (codes "not" ∷ codes "exists" ∷ codes "any" ∷ codes "last" ∷ [])) is ∙ all_listed word
+
+pub ruleset listed = (in_table, not_in_table)

@@ -1,8 +1,9 @@
 -- public: how deep the tokens of a text are nested.
-use Rattle.std.specs.Prelude.{ℕ, ◌+◌, ◌-◌, Bool, false, nat_lt, List, [], ◌∷◌, codes, if◌then◌else◌}
+use Rattle.std.specs.Prelude.{ℕ, ◌+◌, ◌-◌, Bool, false, nat_lt, List, [], ◌∷◌, ◌++◌, map, codes, if◌then◌else◌}
 use Rattle.std.specs.List.{list_any}
 use Rattle.std.specs.Str.{bytes_eq}
 use Rattle.isl_space.specs.Limits.{most_depth}
+use Rattle.isl_expr.specs.Words.{spellings}
 use Rattle.isl_token.specs.declared.depth.Place.{Place}
 use Rattle.isl_token.specs.TokenView.{Token}
 use Rattle.isl_token.specs.TokenView as token
@@ -10,12 +11,9 @@ use Rattle.isl_token.specs.declared.token.Kind.{Kind}
 use Rattle.isl_token.specs.declared.token.Kind.TheVariants as kind
 use Rattle.isl_token.specs.Token.{Text, is_kind, kind_of}
 
--- the words that stand before an operand, so that they can stand in a row: two of formulas, those before an expression, `any` and `last`
+-- the words that stand before an operand, so that they can stand in a row: two of formulas, those of the table, `any` and `last`
 unfoldable pub stacking_words : List Text
-stacking_words =
-    codes "not" ∷ codes "exists" ∷ codes "dom" ∷ codes "domain" ∷ codes "ran" ∷ codes "range" ∷ codes "deltas" ∷ codes "identity"
-    ∷ codes "wrap" ∷ codes "unwrap" ∷ codes "zip" ∷ codes "domain_map" ∷ codes "range_map" ∷ codes "lexmin" ∷ codes "lexmax"
-    ∷ codes "coalesce" ∷ codes "sample" ∷ codes "scan" ∷ codes "codegen" ∷ codes "any" ∷ codes "last" ∷ []
+stacking_words = codes "not" ∷ codes "exists" ∷ (map (λ entry. entry.0) spellings ++ codes "any" ∷ codes "last" ∷ [])
 
 abbrev pub is_stacking_word : Text → Bool
 is_stacking_word word = list_any (bytes_eq word) stacking_words

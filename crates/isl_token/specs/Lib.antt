@@ -3,6 +3,7 @@ pub mod Token
 pub mod Lex
 pub mod Number
 pub mod Depth
+pub mod Fault
 pub mod Reading
 pub mod AnyWord
 pub mod Spelling

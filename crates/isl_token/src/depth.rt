@@ -8,32 +8,11 @@ ghost use Rattle.isl_token.specs.Reading as reading;
 
 use crate::marks::{Rest, Tokens};
 use crate::token::Kind;
+use isl_expr::words::prefix_of;
 use isl_space::limits::MAX_DEPTH;
 
-/// The words that stand before an operand, so that they can stand in a row.
-const STACKING: [&[u8]; 21] = [
-    b"not",
-    b"exists",
-    b"dom",
-    b"domain",
-    b"ran",
-    b"range",
-    b"deltas",
-    b"identity",
-    b"wrap",
-    b"unwrap",
-    b"zip",
-    b"domain_map",
-    b"range_map",
-    b"lexmin",
-    b"lexmax",
-    b"coalesce",
-    b"sample",
-    b"scan",
-    b"codegen",
-    b"any",
-    b"last",
-];
+// The stacking words that stand before no operand of a statement, or before three.
+const OTHERS: [&[u8]; 4] = [b"not", b"exists", b"any", b"last"];
 
 /// A place in a text: the brackets that are open, and the stacking words since the last brace or `;`.
 #[derive(Clone, Copy)]
@@ -54,11 +33,15 @@ fn is_among(mut texts: &[&[u8]], text: &[u8]) -> bool
     false
 }
 
-#[tactic(auto, unfolding(crate::specs::Depth::stacking_words))]
+// Whether the word stands before an operand, so that such words can stand in a row.
+#[tactic(auto, using(crate::proofs::WordLaws::listed))]
 fn is_listed(word: &[u8]) -> bool
     ensures { result ≡ spec.is_stacking_word word.now }
 {
-    is_among(&STACKING, word)
+    match prefix_of(word) {
+        Some(_) => true,
+        None => is_among(&OTHERS, word),
+    }
 }
 
 /// Whether the word stacks. None of those that do has less than three letters.

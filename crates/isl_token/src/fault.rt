@@ -3,6 +3,7 @@
 ghost use Rattle.std.specs.Prelude.{◌≡◌};
 ghost use Rattle.isl_token.specs.declared.fault.Fault.TheVariants.{NoMemory};
 
+use isl_refusal::Refusal;
 use std::alloc::{AllocError, AllocFailed};
 
 /// Why a text is not read.
@@ -27,5 +28,19 @@ impl<T: Drop> From<AllocFailed<T>> for Fault {
 
     fn from(_e: AllocFailed<T>) -> Fault {
         Fault::NoMemory
+    }
+}
+
+impl From<Fault> for Refusal {
+    ghost use Rattle.std.specs.Prelude.{◌≡◌};
+    ghost use Rattle.isl_token.specs.Fault.{of_fault};
+
+    ghost from_gives = { λ fault refusal. refusal ≡ of_fault fault };
+
+    fn from(fault: Fault) -> Refusal {
+        match fault {
+            Fault::NoMemory => Refusal::NoMemory,
+            Fault::Syntax => Refusal::Syntax,
+        }
     }
 }

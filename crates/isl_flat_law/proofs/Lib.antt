@@ -1,0 +1,11 @@
+pub mod ChosenLaws
+pub mod EachLaws
+pub mod KeptLaws
+pub mod LiteralLaws
+pub mod PutBackLaws
+pub mod PutInLaws
+pub mod QuietLaws
+pub mod ScopeLaws
+pub mod SimpleLaws
+pub mod TypedLaws
+pub mod ViewLaws

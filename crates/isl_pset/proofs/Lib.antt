@@ -1,5 +1,0 @@
-pub mod PsetAgain
-pub mod PsetLaws
-pub mod PsetTaken
-pub mod ReadLaws
-pub mod SpelledLaws
