@@ -84,7 +84,8 @@ form_fault_of names more Wide Other g h (op_fault.Cut cut) same wider narrower w
     by (inr memory) = inr memory
 
 -- ---- a call behind others, where nothing is too wide
-module _ (names : List Name) (Wide : Type 0) (few : length names ≤ most_parameters) (narrow : ¬ Wide) (g h k : Gauge) (charged : IsCharged g h) where
+module _ (names : List Name) (Wide : Type 0) (few : length names ≤ most_parameters) (narrow : ¬ Wide) (g h k : Gauge)
+    (charged : IsCharged g h) where
   pub later_cut : (cut : Cut) → IsCutBy h k cut → IsFormFault names Wide g k (op_fault.Cut cut)
   later_cut cut why = (inl (few, narrow), IsCutBy-after g h k cut charged why)
 
@@ -99,7 +100,8 @@ module _ (names : List Name) (Wide : Type 0) (few : length names ≤ most_parame
   ])
   later_formed Forms never (op_fault.Cut cut) why = later_cut cut why.1
 
-  pub later_plain : (joint : List Name) (fault : OpFault) → joint ≡ names → k ≡ h → IsPlainFault joint fault → IsFormFault names Wide g k fault
+  pub later_plain : (joint : List Name) (fault : OpFault) → joint ≡ names → k ≡ h → IsPlainFault joint fault
+      → IsFormFault names Wide g k fault
   later_plain joint op_fault.TooWide is same why =
       let many = subst (λ (l : List Name). most_parameters < length l) is why in absurd (omega (arith, few, many))
   later_plain joint (op_fault.Cut cut) is same why =

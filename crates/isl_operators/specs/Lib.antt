@@ -3,7 +3,6 @@ pub mod Formed
 pub mod Made
 pub mod Fault
 pub mod Pairing
-pub mod Words
 pub use Rattle.isl_relation.specs.Extremes
 pub use Rattle.isl_relation.specs.Flow
 pub use Rattle.isl_relation.specs.Maps

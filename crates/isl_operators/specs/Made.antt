@@ -19,8 +19,10 @@ use Rattle.isl_expr.specs.declared.tree.Binary.{Binary}
 use Rattle.isl_expr.specs.declared.tree.Binary.TheVariants as b
 use Rattle.isl_expr.specs.declared.tree.Prefix.{Prefix}
 use Rattle.isl_expr.specs.declared.tree.Prefix.TheVariants as p
+use Rattle.isl_expr.specs.Words.{word_row}
 use Rattle.isl_relation.specs.Wide.{IsFormFault, IsLiveIn}
 use Rattle.isl_coalesce.specs.Coalesced.{IsCoalesced}
+pub use Rattle.isl_outcome.specs.Why.{IsPaid}
 use Rattle.isl_operators.specs.declared.fault.WordFault.{WordFault}
 use Rattle.isl_operators.specs.declared.fault.WordFault.TheVariants as word_fault
 use Rattle.isl_operators.specs.Operations.{OperatorHas, WordHas, ApplicationHas}
@@ -142,26 +144,7 @@ operator_works b.Superset = true
 
 -- the words that use units: all but those that move columns, or put the same ones side by side
 abbrev pub word_works : Prefix → Bool
-word_works p.Identity = false
-word_works p.Wrap = false
-word_works p.Unwrap = false
-word_works p.Zip = false
-word_works p.DomainMap = false
-word_works p.RangeMap = false
-word_works p.Domain = true
-word_works p.Range = true
-word_works p.Deltas = true
-word_works p.LexMin = true
-word_works p.LexMax = true
-word_works p.Coalesce = true
-word_works p.Sample = true
-word_works p.Scan = true
-word_works p.Codegen = true
-
--- units alone were used, and where nothing uses units the meter is as it was
-pub record IsPaid (works : Bool) (old new : Gauge) : Type 0 where
-  pub charged : IsCharged old new
-  pub free : works ≡ false → new ≡ old
+word_works word = (word_row word).works
 
 -- ---- why none is made
 -- where nothing uses units, work is cut for want of memory alone, and the meter is as it was

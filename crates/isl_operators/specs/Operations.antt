@@ -7,6 +7,7 @@ use Rattle.isl_expr.specs.declared.tree.Binary.{Binary}
 use Rattle.isl_expr.specs.declared.tree.Binary.TheVariants as b
 use Rattle.isl_expr.specs.declared.tree.Prefix.{Prefix}
 use Rattle.isl_expr.specs.declared.tree.Prefix.TheVariants as p
+use Rattle.isl_expr.specs.Words.{tells_elements}
 use Rattle.isl_relation.specs.Point.{Point, IsPoint, HasPoint, map_element}
 use Rattle.isl_relation.specs.Sets.{UniversalHas, CrossSetsHas, IdentityHas, UnwrapHas}
 use Rattle.isl_relation.specs.Maps.{DomainHas, RangeHas, DeltasHas, RestrictRangeHas, RemoveRangeHas, ApplyHas, JoinHas}
@@ -15,7 +16,8 @@ use Rattle.isl_relation.specs.Orders.{ComesAfter, ComesBefore, IsDownTo, IsUpTo,
 use Rattle.isl_relation.specs.Extremes.{FirstHas, HasFirst}
 
 -- ---- operators
--- the operators whose elements are told by those of their operands; tests make no value, and what `%` has outside of the context is not told
+-- the operators whose elements are told by those of their operands; tests make no value, and what `%` has outside of the context is not
+-- told
 abbrev pub is_operation : Binary → Bool
 is_operation b.Union = true
 is_operation b.Intersection = true
@@ -51,8 +53,8 @@ OrderedHas Ordered Left Right element = OrderedSetsHas Ordered Left Right elemen
 -- What an operator makes of the elements of its operands. `+`: those of either. `*` and `-`: those of the left one that are in the right
 -- one, and that are not; a map's pairs are in a set where their first element is. `->*` and `->-`: the pairs whose second element is in the
 -- set, and is not. `cross`: the pairs of both, of two sets or of two maps. `.`: first by the left map, then by the right one. `->`: from
--- each element of the left set to each of the right one. `<<`, `<<=`, `>>`, `>>=`: from x to y, where x, or its image by the left map, comes
--- before y, or the image of that by the right one; is not greater; comes after it; is not less.
+-- each element of the left set to each of the right one. `<<`, `<<=`, `>>`, `>>=`: from x to y, where x, or its image by the left map,
+-- comes before y, or the image of that by the right one; is not greater; comes after it; is not less.
 abbrev pub OperatorHas : Binary → (Element → Type 0) → (Element → Type 0) → Element → Type 0
 OperatorHas b.Union Left Right element = Left element ⊎ Right element
 OperatorHas b.Intersection Left Right element = Left element × IsIn Right element
@@ -76,21 +78,7 @@ OperatorHas b.Superset Left Right element = ⊥
 -- ---- words
 -- the words whose elements are told by those of their operand; `sample` chooses, `scan` lists, and `codegen` makes loops
 abbrev pub is_operation_word : Prefix → Bool
-is_operation_word p.Domain = true
-is_operation_word p.Range = true
-is_operation_word p.Deltas = true
-is_operation_word p.Identity = true
-is_operation_word p.Wrap = true
-is_operation_word p.Unwrap = true
-is_operation_word p.Zip = true
-is_operation_word p.DomainMap = true
-is_operation_word p.RangeMap = true
-is_operation_word p.LexMin = true
-is_operation_word p.LexMax = true
-is_operation_word p.Coalesce = true
-is_operation_word p.Sample = false
-is_operation_word p.Scan = false
-is_operation_word p.Codegen = false
+is_operation_word word = tells_elements word
 
 -- What a word makes of an operand over these parameters, by the elements that this has at all valuations: today's words make of those at
 -- one valuation what they have there. `coalesce` puts pieces together, and leaves the elements as they are.

@@ -111,8 +111,8 @@ pub(crate) fn paired(
         ↔ PairingHas pairing (Has left.now valuation) (Has right.now valuation) element) }
     ensures definitions { HasNoDefinitions left.now → HasNoDefinitions right.now → IfOk result HasNoDefinitions }
     ensures numbers { IfOk result (IsWithinLimit meter.old) }
-    ensures units { IsFormedFrom (joined left.now.params right.now.params) (PairsWide (PairingForms pairing) (Has left.now) (Has right.now)) 0
-        meter.old meter.new result }
+    ensures units { IsFormedFrom (joined left.now.params right.now.params) (PairsWide (PairingForms pairing) (Has left.now) (Has right.now))
+        0 meter.old meter.new result }
 {
     let pieces = left.pieces();
     let others = right.pieces();

@@ -4,12 +4,12 @@ ghost use Rattle.std.specs.Prelude.{◌≡◌, ◌↔◌, [], true, IfOk, MatchR
 ghost use Rattle.isl_meter.specs.Gauge.{IsMetered};
 ghost use Rattle.isl_space.specs.Element.{Element};
 ghost use Rattle.isl_space.specs.Valuation.{Valuation};
+ghost use Rattle.isl_expr.specs.Words.{word_row};
 ghost use Rattle.isl_union.specs.KeptValue.{Has, HasNoDefinitions, IsKeptValue};
 ghost use Rattle.isl_union.specs.Numbers.{IsWithinLimit};
 ghost use Rattle.isl_operators.specs.Operations.{WordHas, WordMisses, is_operation_word};
 ghost use Rattle.isl_operators.specs.Formed.{WordForms, FormsWide};
 ghost use Rattle.isl_operators.specs.Made.{IsAnyWordOf, IsCoalescedFlat, IsPaid, IsWhyNone, IsWhyNoWord, IsWordOf, word_works};
-ghost use Rattle.isl_operators.specs.Words.{is_moving};
 
 use crate::WordFault;
 use isl_assumed::Assumed;
@@ -23,7 +23,7 @@ use std::alloc::Global;
 
 // What a word makes of a value that moves its columns, doubles them or takes them out.
 fn moved(alloc: Global, word: Prefix, operand: &Value, meter: &mut Meter) -> Result<Value, OpFault>
-    requires moving { is_moving word ≡ true }
+    requires moving { (word_row word).moves ≡ true }
     requires within { IsWithinLimit meter.old operand.now }
     ensures written { IfOk result (IsWordOf word operand.now) }
     ensures kept { IfOk result IsKeptValue }

@@ -1,11 +1,10 @@
 -- Where something in an expression uses units, and its evaluation goes on, its work may be cut.
 use mathlib.Core.Former.{Count}
-use Rattle.std.proofs.Common.{◌≡◌, ◌∙◌, ◌⊎◌, inl, inr, Bool, true, false, List, [], ◌++◌, length, refl, sym, ap}
+use Rattle.std.proofs.Common.{◌≡◌, ◌∙◌, ◌⊎◌, inl, inr, Bool, true, false, List, [], ◌++◌, refl, sym, ap}
 use Rattle.std.specs.Prelude.{◌||◌}
-use Rattle.std.proofs.lemmas.Bool.{cases_lt, false≢true}
+use Rattle.std.proofs.lemmas.Bool.{false≢true}
 use Rattle.std.proofs.lemmas.List.{append-nil}
 use Rattle.std.proofs.lemmas.List.Folds.{list_any-append}
-use Rattle.isl_space.specs.Limits.{most_parameters}
 use Rattle.isl_space.specs.Name.{Name}
 use Rattle.isl_space.specs.Valuation.{Valuation}
 use Rattle.isl_space.specs.Element.{Element}
@@ -17,15 +16,15 @@ use Rattle.isl_kinds.specs.Parts.{Part, parts_of, parts_in, parts_in_links, part
 use Rattle.isl_kinds.specs.Typed.{declared_of, declared_in, declared_past, joined_names}
 use Rattle.isl_operators.specs.Operations.{OperatorHas, WordMisses}
 use Rattle.isl_operators.specs.Formed.{FormsWide, OperatorForms, ApplicationForms, WordForms}
-use Rattle.isl_values.specs.declared.list.ListPart.TheVariants.{First}
+use Rattle.isl_state.specs.declared.list.ListPart.TheVariants.{First}
 use Rattle.isl_values.specs.Live.{narrows}
-use Rattle.isl_values.specs.State.{AtAssumed, StateView, scope_of}
+use Rattle.isl_state.specs.State.{AtAssumed, StateView, scope_of}
 use Rattle.isl_values.specs.Worked.{part_taken}
 use Rattle.isl_values.specs.Selection.{Selects, SelectsIn, PostfixHas}
-use Rattle.isl_values.specs.Ends.{CutUnder, End, cut, too_wide, NoEnd, GoesOn, FirstEnds, OperationEnds, DependenceEnds, PairEnds, WordEnds}
+use Rattle.isl_values.specs.Ends.{CutUnder, End, cut, NoEnd, GoesOn, FirstEnds, DependenceEnds, PairEnds, WordEnds}
 use Rattle.isl_values.specs.Ends.{Ends, EndsIn, EndsPastLinks, EndsPastPostfixes, EndsPostfix}
 use Rattle.isl_values.specs.Made.{uses_units}
-use Rattle.isl_values.proofs.FirstLaws.{both_go}
+use Rattle.isl_outcome.proofs.FirstLaws.{both_go, operation_cut}
 use Rattle.isl_values.proofs.ValueLaws.{work}
 
 either_works : (a b : Bool) → (a || b) ≡ true → (a ≡ true) ⊎ (b ≡ true)
@@ -40,13 +39,6 @@ behind_cut A B goes there = let both = both_go A B goes in inr (both.0, there bo
 -- the first one may
 before_cut : (A B : End → Type 0) → GoesOn (FirstEnds A B) → (GoesOn A → A cut) → FirstEnds A B cut
 before_cut A B goes there = inl (there (both_go A B goes).0)
-
-pub operation_cut : (names : List Name) (Wide Misses : Type 0) → GoesOn (OperationEnds names Wide Misses)
-    → OperationEnds names Wide Misses cut
-operation_cut names Wide Misses goes = elim (cases_lt most_parameters (length names)) [
-  | inl many ↦ absurd (goes too_wide (inl many))
-  | inr few ↦ (few, (λ wide. goes too_wide (inr (few, wide))))
-]
 
 -- ---- what follows an operand
 abbrev Elements : Type 1
@@ -100,7 +92,8 @@ Behind state operand postfixes why =
     Past state (declared_in (scope_of state) operand) (λ v x. SelectsIn state (part_taken postfixes) operand v x) postfixes why
 
 mutual
-  pub working_cut : (state : StateView) (expr : Expr) → work state.assumed (parts_of expr) ≡ true → GoesOn (Ends state expr) → Ends state expr cut
+  pub working_cut : (state : StateView) (expr : Expr) → work state.assumed (parts_of expr) ≡ true → GoesOn (Ends state expr)
+      → Ends state expr cut
   working_cut state (e.Name name) works goes = absurd (false≢true works)
   working_cut state (e.Literal literal) works goes = tt
   working_cut state (Row' s first t links) works goes =
@@ -115,13 +108,15 @@ mutual
       (DependenceEnds
       (joined_names (joined_names (declared_in (scope_of state) source) (declared_in (scope_of state) sink))
       (declared_in (scope_of state) schedule))
-      (AtAssumed state (λ v x. SelectsIn state First source v x)) (AtAssumed state (λ v x. SelectsIn state First sink v x))) goes (λ own. operation_cut _ _ _ own)
+      (AtAssumed state (λ v x. SelectsIn state First source v x)) (AtAssumed state (λ v x. SelectsIn state First sink v x))) goes
+      (λ own. operation_cut _ _ _ own)
   working_cut state (Last' r source s sink t schedule) works goes =
       behind_cut (FirstEnds (EndsIn state source) (FirstEnds (EndsIn state sink) (EndsIn state schedule)))
       (DependenceEnds
       (joined_names (joined_names (declared_in (scope_of state) source) (declared_in (scope_of state) sink))
       (declared_in (scope_of state) schedule))
-      (AtAssumed state (λ v x. SelectsIn state First source v x)) (AtAssumed state (λ v x. SelectsIn state First sink v x))) goes (λ own. operation_cut _ _ _ own)
+      (AtAssumed state (λ v x. SelectsIn state First source v x)) (AtAssumed state (λ v x. SelectsIn state First sink v x))) goes
+      (λ own. operation_cut _ _ _ own)
   working_cut state (Post' s operand t postfixes) works goes =
       elim (either_works (work state.assumed (parts_in operand)) (work state.assumed (parts_in_postfixes postfixes))
       (sym (list_any-append (uses_units state.assumed) (parts_in operand) (parts_in_postfixes postfixes)) ∙ works)) [

@@ -1,10 +1,9 @@
 -- What ends an evaluation in rows, and in what follows an operand.
 use mathlib.Core.Former.{Count}
-use Rattle.std.proofs.Common.{◌≡◌, ◌∙◌, ◌↔◌, inl, inr, ◌<◌, ◌+◌, ℕ, zero, suc, List, [], ◌∷◌, ◌++◌, length, get_or, take}
+use Rattle.std.proofs.Common.{◌≡◌, ◌∙◌, inl, inr, ◌<◌, ◌+◌, ℕ, zero, suc, List, [], ◌∷◌, ◌++◌, length, get_or, take}
 use Rattle.std.proofs.Common.{sym, ap, subst, arith}
 use Rattle.std.proofs.lemmas.List.{take_more}
 use Rattle.isl_space.specs.Name.{Name}
-use Rattle.isl_space.specs.SpaceForm.{SpaceForm}
 use Rattle.isl_expr.specs.declared.tree.Prefix.{Prefix as Word}
 use Rattle.isl_expr.specs.declared.tree.Link.{Link}
 use Rattle.isl_expr.specs.declared.tree.Postfix.{Postfix, Inverse, Apply, Item}
@@ -14,54 +13,20 @@ use Rattle.isl_expr.specs.declared.tree.Expr.{items_hidden-the_row-Link-1, items
 use Rattle.isl_expr.specs.declared.tree.Expr.TheBlock.{hidden-the_row-Expr-0, hidden-the_row-Link-1, hidden-the_row-Postfix-2}
 use Rattle.isl_kinds.specs.Typed.{declared_of, declared_of_row, declared_of_post, declared_past, joined_names}
 use Rattle.isl_operators.specs.Operations.{OperatorHas}
-use Rattle.isl_operators.specs.Formed.{AreIn, OperatorForms, ApplicationForms, FormsWide, PairsWide}
-use Rattle.isl_relation.specs.Formed.{FormsAccess}
-use Rattle.isl_values.specs.declared.list.ListPart.{ListPart}
-use Rattle.isl_values.specs.State.{AtAssumed, StateView, scope_of}
+use Rattle.isl_operators.specs.Formed.{OperatorForms, ApplicationForms}
+use Rattle.isl_state.specs.declared.list.ListPart.{ListPart}
+use Rattle.isl_state.specs.State.{AtAssumed, StateView, scope_of}
 use Rattle.isl_values.specs.Worked.{part_of_list, part_taken}
 use Rattle.isl_values.specs.Selection.{PostfixHas, Selects, SelectsAt, RowSelects, PostSelects}
 use Rattle.isl_values.specs.Ends.{CutUnder, End, NoEnd, GoesOn, FirstEnds, Ends, DependenceEnds, PairEnds, WordEnds}
 use Rattle.isl_values.specs.Ends.{EndsPastLinks, EndsPastPostfixes, EndsPostfix, EndsRow, EndsPost}
 use Rattle.isl_values.specs.Three.{OperandsEnd}
-use Rattle.isl_values.proofs.FirstLaws.{EndAlike, alike_itself, alike_trans, both_go, first_alike, first_grouped, goes_alike, goes_both}
-use Rattle.isl_values.proofs.FirstLaws.{nothing_first, operation_alike, turned_alike}
-use Rattle.isl_values.proofs.SameLaws.{at_assumed, itself, same_misses, same_operator, turned_same}
-pub use Rattle.isl_values.proofs.SameLaws.{AreSame, AreSameAt, Selection}
+use Rattle.isl_outcome.proofs.FirstLaws.{EndAlike, alike_itself, alike_trans, both_go, first_alike, first_grouped, goes_alike, goes_both}
+use Rattle.isl_outcome.proofs.FirstLaws.{nothing_first, turned_alike}
+use Rattle.isl_values.proofs.SameLaws.{at_assumed, itself, same_operator}
 use Rattle.isl_values.proofs.RowLaws.{part_is, same_postfix}
-
--- ---- of the same elements the same is formed
-are_in : (P Q : Selection) → AreSame P Q → (s : SpaceForm) → AreIn P s → AreIn Q s
-are_in P Q same s some = λ none. some (λ v x has is. none v x ((same v x).0 has) is)
-
-pub forms_wide : (Forms : SpaceForm → SpaceForm → Type 0) (P Q : Selection) → AreSame P Q → FormsWide Forms P ↔ FormsWide Forms Q
-forms_wide Forms P Q same = (
-  (λ h. (h.0, h.1, are_in P Q same h.0 h.2, h.3, h.4)),
-  (λ h. (h.0, h.1, are_in Q P (turned_same P Q same) h.0 h.2, h.3, h.4)),
-)
-
-pairs_from : (Forms : SpaceForm → SpaceForm → SpaceForm → Type 0) (P Q R S : Selection) → AreSame P Q → AreSame R S
-    → PairsWide Forms P R → PairsWide Forms Q S
-pairs_from Forms P Q R S left right h = (h.0, h.1, h.2, are_in P Q left h.0 h.3, are_in R S right h.1 h.4, h.5, h.6)
-
-pub pairs_wide : (Forms : SpaceForm → SpaceForm → SpaceForm → Type 0) (P Q R S : Selection) → AreSame P Q → AreSame R S
-    → PairsWide Forms P R ↔ PairsWide Forms Q S
-pairs_wide Forms P Q R S left right = (
-  pairs_from Forms P Q R S left right,
-  pairs_from Forms Q P S R (turned_same P Q left) (turned_same R S right),
-)
-
-pub pair_alike : (Forms : SpaceForm → SpaceForm → SpaceForm → Type 0) (names others : List Name) (P Q R S : Selection) → AreSame P Q
-    → AreSame R S → EndAlike (PairEnds Forms names others P R) (PairEnds Forms names others Q S)
-pair_alike Forms names others P Q R S left right =
-    operation_alike (joined_names names others) _ _ _ _ (pairs_wide Forms P Q R S left right) ((λ h. h), (λ h. h))
-
-pub word_alike : (word : Word) (P Q : Selection) → AreSame P Q → EndAlike (WordEnds word P) (WordEnds word Q)
-word_alike word P Q same = operation_alike [] _ _ _ _ (forms_wide _ P Q same) (same_misses word P Q same)
-
-pub dependence_alike : (names : List Name) (P Q R S : Selection) → AreSame P Q → AreSame R S
-    → EndAlike (DependenceEnds names P R) (DependenceEnds names Q S)
-dependence_alike names P Q R S source sink =
-    operation_alike names _ _ _ _ (pairs_wide FormsAccess P Q R S source sink) ((λ h. h), (λ h. h))
+use Rattle.isl_values.proofs.AlikeLaws.{pair_alike}
+pub use Rattle.isl_values.proofs.SameLaws.{AreSame, AreSameAt, Selection}
 
 module _ (state : StateView) where
   abbrev Selected : Expr → Selection
@@ -108,7 +73,8 @@ module _ (state : StateView) where
 
   pub row_ends_at : (names : List Name) (P : Selection) (links : List Link) (i : ℕ) (link : Link) (why : End) → i < length links
       → link ≡ get_or links i link → GoesOn (EndsRow state names P (take i links))
-      → EndsWith (declared_of_row (scope_of state) names (take i links)) (Behind P (take i links)) link why → EndsRow state names P links why
+      → EndsWith (declared_of_row (scope_of state) names (take i links)) (Behind P (take i links)) link why
+      → EndsRow state names P links why
   row_ends_at names P [] i link why low is on h = absurd (omega (arith, low))
   row_ends_at names P (other ∷ links) zero link why low is on h = by (subst (λ (l : Link). EndsWith names P l why) is h)
     where
@@ -216,7 +182,8 @@ module _ (state : StateView) where
       let next = declared_past (scope_of state) names postfix in
       first_alike (EndsPostfix state names P postfix) (EndsPost state next (Followed P postfix) postfixes)
       (EndsPostfix state names Q postfix) (EndsPost state next (Followed Q postfix) postfixes) (postfix_alike names P Q postfix same)
-      (post_alike next (Followed P postfix) (Followed Q postfix) postfixes (λ v here. same_postfix state v postfix (P v) (Q v) (same v here)))
+      (post_alike next (Followed P postfix) (Followed Q postfix) postfixes
+      (λ v here. same_postfix state v postfix (P v) (Q v) (same v here)))
 
   pub post_ends_at : (names : List Name) (P : Selection) (postfixes : List Postfix) (i : ℕ) (postfix : Postfix) (why : End)
       → i < length postfixes → postfix ≡ get_or postfixes i postfix → GoesOn (EndsPost state names P (take i postfixes))

@@ -11,7 +11,6 @@ use Rattle.isl_union.specs.KeptValue.{KeptPiece, KeptValue, Has, HasNoDefinition
 use Rattle.isl_union.specs.Piece.{kept_piece}
 use Rattle.isl_union.proofs.FlatLaws.{flat_elements, flat_itself, flat_same}
 use Rattle.isl_text.specs.declared.refusal.Refusal.{Refusal}
-use Rattle.isl_text.specs.declared.refusal.Refusal.TheVariants.{NoMemory}
 use Rattle.isl_tree.specs.declared.tree.Literal.{Literal}
 use Rattle.isl_tree.specs.Plain.{is_plain}
 use Rattle.isl_lower.specs.Value.{IsLowered}
@@ -19,26 +18,20 @@ use Rattle.isl_lower.proofs.ValueLaws.{lowered_plain}
 use Rattle.isl_expr.specs.declared.tree.Expr as e
 use Rattle.isl_expr.specs.declared.tree.Expr.{Expr}
 use Rattle.isl_kinds.specs.Parts.{parts_of}
-use Rattle.isl_values.specs.declared.list.ListPart.{ListPart}
+use Rattle.isl_state.specs.declared.list.ListPart.{ListPart}
 use Rattle.isl_assumed.specs.declared.assumed.Assumed.{Assumed}
 use Rattle.isl_values.specs.Live.{IsLiveOf, IsLivePart, IsLivePartOf, IsLiveUnder}
-use Rattle.isl_values.specs.State.{StateView, HasNumbersUpTo}
+use Rattle.isl_state.specs.State.{StateView, HasNumbersUpTo}
 use Rattle.isl_values.specs.Worked.{IsWorkedAt, IsWrittenAt}
 use Rattle.isl_values.specs.Selection.{SelectsAt}
 use Rattle.isl_values.specs.Ends.{CutAlone, Ends, GoesOn}
 use Rattle.isl_values.specs.Made.{IsPaid, IsWhyUnmade, IsWhyUnworked}
 use Rattle.isl_values.specs.Three.{IsFlatAt, IsLiveFlat, IsMadeFlat}
 use Rattle.isl_values.proofs.CutLaws.{working_cut}
-use Rattle.isl_values.proofs.LiveLaws.{part_elements, part_itself, part_live, part_numbers, part_plain, part_same}
+use Rattle.isl_state.proofs.LiveLaws.{part_elements, part_itself, part_live, part_numbers, part_plain, part_same}
 use Rattle.isl_values.proofs.SameLaws.{itself, same_trans}
-use Rattle.isl_values.proofs.ValueLaws.{IsMadeAt, paid_works, same_limit, unmade_after, unmade_memory, work}
-
--- memory ended behind a call that used units alone
-pub unmade_later : {A : Type 0} (r : Result A Refusal) (P : A → Type 0) (g h : Gauge) → r ≡ Err NoMemory → IsCharged g h
-    → MatchResult r P (IsWhyUnmade true CutAlone g h)
-unmade_later {A} r P g h is charged =
-    subst (λ (o : Result A Refusal). MatchResult o P (IsWhyUnmade true CutAlone g h)) (sym is)
-    (unmade_memory true CutAlone g h NoMemory refl (paid_works g h charged))
+use Rattle.isl_values.proofs.ValueLaws.{IsMadeAt, paid_works, same_limit, unmade_after, work}
+pub use Rattle.isl_outcome.proofs.PaidLaws.{unmade_later}
 
 -- ---- pieces
 abbrev pub DefinesNone : PieceView → Type 0
@@ -127,7 +120,8 @@ flat_live_answer assumed g h k worked one flat same made charged of (Err refusal
 -- ---- of a value that is worked out
 module _ (state : StateView) (part : ListPart) (expr : Expr) (g h k : Gauge) (value : KeptValue)
     (made : IsMadeAt state part expr g h value) (goes : GoesOn (Ends state expr)) where
-  pub flat_made : (flat : KeptValue) → IsLiveFlat state.assumed (unsigned_abs (limit_of h)) value flat → IsCharged h k → (HasNoDefinitions value → k ≡ h)
+  pub flat_made : (flat : KeptValue) → IsLiveFlat state.assumed (unsigned_abs (limit_of h)) value flat → IsCharged h k
+      → (HasNoDefinitions value → k ≡ h)
       → IsFlatAt state part expr (unsigned_abs (limit_of g)) flat × IsPaid (work state.assumed (parts_of expr)) g k
   flat_made flat is charged free = (
     record {
@@ -135,7 +129,8 @@ module _ (state : StateView) (part : ListPart) (expr : Expr) (g h k : Gauge) (va
       kept = is.kept;
       live = is.live;
       params = is.params ∙ made.0.params;
-      elements = λ v here. same_trans (Has flat v) (Has value v) (SelectsAt state part expr v) (is.elements v here) (made.0.elements v here);
+      elements = λ v here. same_trans (Has flat v) (Has value v) (SelectsAt state part expr v) (is.elements v here)
+          (made.0.elements v here);
       numbers = subst (λ (z : ℤ). HasNumbersUpTo (unsigned_abs z) flat) (same_limit g h made.1.charged) is.numbers;
       definitions = λ always. is.definitions;
     },
@@ -149,7 +144,8 @@ module _ (state : StateView) (part : ListPart) (expr : Expr) (g h k : Gauge) (va
       → IsWhyUnworked (work state.assumed (parts_of expr)) (Ends state expr) g k refusal
   flat_failed refusal why defines = by (work state.assumed (parts_of expr)) refl
     where
-      by : (b : Bool) → work state.assumed (parts_of expr) ≡ b → IsWhyUnworked (work state.assumed (parts_of expr)) (Ends state expr) g k refusal
+      by : (b : Bool) → work state.assumed (parts_of expr) ≡ b
+          → IsWhyUnworked (work state.assumed (parts_of expr)) (Ends state expr) g k refusal
       by true works = inl (record {
         cut = why.cut;
         is = why.is;
@@ -160,7 +156,8 @@ module _ (state : StateView) (part : ListPart) (expr : Expr) (g h k : Gauge) (va
       by false none = absurd (defines (made.0.definitions none))
 
   pub flat_answer : {A : Type 0} (of : A → KeptValue) (r : Result A Refusal)
-      → MatchResult r (λ a. IsLiveFlat state.assumed (unsigned_abs (limit_of h)) value (of a) × IsCharged h k) (IsWhyUnmade true CutAlone h k)
+      → MatchResult r (λ a. IsLiveFlat state.assumed (unsigned_abs (limit_of h)) value (of a) × IsCharged h k)
+      (IsWhyUnmade true CutAlone h k)
       → (HasNoDefinitions value → MatchResult r (λ _. k ≡ h) (λ _. ⊥))
       → MatchResult r (λ a. IsFlatAt state part expr (unsigned_abs (limit_of g)) (of a) × IsPaid (work state.assumed (parts_of expr)) g k)
       (IsWhyUnworked (work state.assumed (parts_of expr)) (Ends state expr) g k)

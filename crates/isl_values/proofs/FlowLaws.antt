@@ -10,8 +10,8 @@ use Rattle.isl_flow.specs.declared.sources.Flow.{Flow}
 use Rattle.isl_text.specs.declared.refusal.Refusal.{Refusal}
 use Rattle.isl_text.specs.declared.refusal.Refusal.TheVariants.{NoMemory}
 use Rattle.isl_operators.specs.Made.{IsOver}
-use Rattle.isl_values.specs.declared.list.ListValue.{ListValue}
-use Rattle.isl_values.specs.State.{HasNumbersUpTo}
+use Rattle.isl_state.specs.declared.list.ListValue.{ListValue}
+use Rattle.isl_state.specs.State.{HasNumbersUpTo}
 use Rattle.isl_values.specs.Made.{refusal_of_fault, IsMadeOf}
 use Rattle.isl_values.specs.Three.{AreOfFlow}
 use Rattle.isl_values.proofs.OutcomeLaws.{IsAnswer}
@@ -40,7 +40,8 @@ listed_answer outcome (Err refusal) why = why
 
 -- both values over the same parameters
 pub flow_values : (outcome : Result Flow OpFault) (own names : List Name) (Last Unsourced : Valuation → Element → Type 0) (limit : ℕ)
-    (Plain : Type 0) → own ≡ names → IfOk outcome (λ flow. IsOver own Last flow.last) → IfOk outcome (λ flow. IsOver own Unsourced flow.unsourced)
+    (Plain : Type 0) → own ≡ names → IfOk outcome (λ flow. IsOver own Last flow.last)
+    → IfOk outcome (λ flow. IsOver own Unsourced flow.unsourced)
     → IfOk outcome (λ flow. IsKeptValue flow.last) → IfOk outcome (λ flow. IsKeptValue flow.unsourced)
     → (Plain → IfOk outcome (λ flow. HasNoDefinitions flow.last × HasNoDefinitions flow.unsourced))
     → IfOk outcome (λ flow. HasNumbersUpTo limit flow.last × HasNumbersUpTo limit flow.unsourced)

@@ -25,17 +25,17 @@ use Rattle.isl_expr.specs.declared.tree.Expr.{Expr}
 use Rattle.isl_expr.specs.declared.tree.Expr as e
 use Rattle.isl_kinds.specs.Parts.{parts_of}
 use Rattle.isl_kinds.specs.Typed.{TypeView, ScopeView, params_of, has_unknown, bound_to}
-use Rattle.isl_values.specs.declared.list.ListPart.{ListPart}
-use Rattle.isl_values.specs.declared.list.ListPart.TheVariants.{First, Second}
-use Rattle.isl_values.specs.declared.list.ListValue.{ListValue}
+use Rattle.isl_state.specs.declared.list.ListPart.{ListPart}
+use Rattle.isl_state.specs.declared.list.ListPart.TheVariants.{First, Second}
+use Rattle.isl_state.specs.declared.list.ListValue.{ListValue}
 use Rattle.isl_assumed.specs.declared.assumed.Assumed.{Assumed}
 use Rattle.isl_values.specs.Live.{IsLiveOf}
-use Rattle.isl_values.specs.State.{Kept, StateView, kept_of, type_of, scope_of, value_at, HasNumbersUpTo, Fits}
+use Rattle.isl_state.specs.State.{Kept, StateView, kept_of, type_of, scope_of, value_at, HasNumbersUpTo, Fits}
 use Rattle.isl_values.specs.Ends.{CutAlone, Ends, GoesOn}
 use Rattle.isl_values.specs.Selection.{KeptHas, SelectsAt}
 use Rattle.isl_values.specs.Made.{uses_units, IsSoundExpr, IsMadeOf, IsValueOf, IsPaid, IsWhyUnmade, IsWhyUnworked}
 use Rattle.isl_values.specs.Three.{AreBothOf, AreKept, IsValueAt}
-use Rattle.isl_values.proofs.StateLaws.{bound_at}
+use Rattle.isl_state.proofs.StateLaws.{bound_at}
 
 -- ---- a list of distinct names, joined to none, is itself
 inserted_all : (done rest names : List Name) → AreDistinct names → done ++ rest ≡ names → insert_all bytes_eq done rest ≡ names

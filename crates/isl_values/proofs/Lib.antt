@@ -1,11 +1,8 @@
 pub mod PartLaws
-pub mod StateLaws
-pub mod ForgetLaws
 pub mod KeptLaws
 pub mod NamesLaws
 pub mod SameLaws
 pub mod RowLaws
-pub mod FirstLaws
 pub mod EndsLaws
 pub mod WorkedLaws
 pub mod ValueLaws
@@ -17,7 +14,10 @@ pub mod OperandLaws
 pub mod DepthLaws
 pub mod ThreeLaws
 pub mod CutLaws
-pub mod LiveLaws
+pub mod LiveEndsLaws
 pub mod UnderLaws
-pub mod NarrowLaws
 pub mod FlatLaws
+pub mod AlikeLaws
+pub mod AskedLaws
+pub mod WholeLaws
+pub mod WordLaws

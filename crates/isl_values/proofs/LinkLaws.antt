@@ -12,7 +12,7 @@ use Rattle.isl_operators.specs.Made.{IsOperatorOf}
 use Rattle.isl_kinds.specs.Parts.{operator, parts_of, parts_of_links}
 use Rattle.isl_kinds.specs.Typed.{declared_of, declared_of_row, joined_names}
 use Rattle.isl_values.specs.Live.{IsLiveOf}
-use Rattle.isl_values.specs.State.{AtAssumed, StateView, scope_of}
+use Rattle.isl_state.specs.State.{AtAssumed, StateView, scope_of}
 use Rattle.isl_values.specs.Selection.{Selects, RowSelects}
 use Rattle.isl_values.specs.Worked.{IsWorkedRow}
 use Rattle.isl_values.specs.Ends.{End, Ends, EndsRow, GoesOn, PairEnds}
@@ -20,9 +20,10 @@ use Rattle.isl_values.specs.Made.{uses_units, IsSoundExpr, IsSoundLink, IsValueO
 use Rattle.isl_values.proofs.PartLaws.{quiet_at}
 use Rattle.isl_values.proofs.NamesLaws.{declared_more}
 use Rattle.isl_values.proofs.RowLaws.{row_more}
-use Rattle.isl_values.proofs.FirstLaws.{EndAlike, goes_alike, goes_both}
+use Rattle.isl_outcome.proofs.FirstLaws.{EndAlike, goes_alike, goes_both}
 use Rattle.isl_values.proofs.SameLaws.{at_assumed, Selection}
-use Rattle.isl_values.proofs.EndsLaws.{Behind, OperatorEnds, pair_alike}
+use Rattle.isl_values.proofs.EndsLaws.{Behind, OperatorEnds}
+use Rattle.isl_values.proofs.AlikeLaws.{pair_alike}
 use Rattle.isl_values.proofs.EndsLaws.{row_ends_at, row_goes_more}
 use Rattle.isl_values.proofs.WorkedLaws.{row_worked_more}
 use Rattle.isl_values.proofs.ValueLaws.{IsMade, work, value_before, paid_after, unworked_after}
@@ -70,7 +71,8 @@ module _ (state : StateView) (links : List Link) (i : ℕ) (link : Link) (low : 
         → IsWhyUnworked (work state.assumed (parts_of link.operand)) (Ends state link.operand) h k refusal
         → IsWhyUnworked Works (EndsRow state first.params (Has first) links) g k refusal
     link_failed k refusal why =
-        unworked_after Works Works (work state.assumed (parts_of link.operand)) (Ends state link.operand) (EndsRow state first.params (Has first) links)
+        unworked_after Works Works (work state.assumed (parts_of link.operand)) (Ends state link.operand)
+        (EndsRow state first.params (Has first) links)
         g h k refusal with_operand
         (λ end ends. row_ends_at state first.params (Has first) links i link end low is before.goes_on (inl ends)) before.paid why
 
@@ -99,7 +101,8 @@ module _ (state : StateView) (links : List Link) (i : ℕ) (link : Link) (low : 
           → IsWhyUnworked (uses_units state.assumed (operator link.operator)) (JoinEnds left right) k m refusal
           → IsWhyUnworked Works (EndsRow state first.params (Has first) links) g m refusal
       join_failed m refusal operand_goes why =
-          unworked_after Works Works (uses_units state.assumed (operator link.operator)) (JoinEnds left right) (EndsRow state first.params (Has first) links)
+          unworked_after Works Works (uses_units state.assumed (operator link.operator)) (JoinEnds left right)
+          (EndsRow state first.params (Has first) links)
           g k m refusal with_operator
           (λ end ends. row_ends_at state first.params (Has first) links i link end low is before.goes_on
           (inr (operand_goes, (joined_alike end).0 ends)))

@@ -1,10 +1,9 @@
 -- What operations make of values, shared, and what refuses them where they make none.
-use Rattle.std.proofs.Common.{◌≡◌, ◌∙◌, ◌↔◌, ◌⊎◌, inl, inr, ◌≤◌, ℕ, Bool, List, [], length, ap, subst, arith}
+use Rattle.std.proofs.Common.{◌≡◌, ◌∙◌, ◌↔◌, ◌⊎◌, inl, inr, ℕ, Bool, List, [], length, ap, subst, arith}
 use Rattle.std.specs.Prelude.{Result, Ok, Err, IfErr, IfOk, MatchResult}
 use Rattle.isl_meter.specs.Gauge.{Gauge}
 use Rattle.isl_meter.specs.declared.Cut.{Cut}
 use Rattle.isl_meter.specs.declared.Cut.TheVariants as cuts
-use Rattle.isl_space.specs.Limits.{most_parameters}
 use Rattle.isl_space.specs.Name.{Name}
 use Rattle.isl_space.specs.Names.{AreDistinct, joined}
 use Rattle.isl_space.specs.Valuation.{Valuation}
@@ -19,11 +18,12 @@ use Rattle.isl_operators.specs.declared.fault.WordFault.TheVariants as word_faul
 use Rattle.isl_operators.specs.Made.{IsWhyNone, IsWhyNoWord}
 use Rattle.isl_kinds.specs.Typed.{joined_names}
 use Rattle.isl_kinds.proofs.JoinedNamesLaws.{joined_is}
-use Rattle.isl_values.specs.State.{HasNumbersUpTo}
-use Rattle.isl_values.specs.Ends.{cut, too_wide, no_minimum, nested, time_shapes, unbounded, several_times, no_valuation, not_assumed}
+use Rattle.isl_state.specs.State.{HasNumbersUpTo}
+use Rattle.isl_values.specs.Ends.{cut, too_wide, no_minimum}
 use Rattle.isl_values.specs.Ends.{End, GoesOn, OperationEnds}
 use Rattle.isl_values.specs.Made.{refusal_of_fault, refusal_of_word_fault, IsMadeOf, IsPaid, IsWhyUnworked}
 use Rattle.isl_values.proofs.ValueLaws.{paid_same, unmade_memory}
+pub use Rattle.isl_outcome.proofs.FirstLaws.{operation_goes}
 
 -- ---- the value of an outcome
 module _ {F : Type 0} where
@@ -107,18 +107,6 @@ module _ (works : Bool) (Wide : Type 0) (g h : Gauge) where
       narrow reason (inl memory) = inl memory
       narrow reason (inr there) = inr (omega arith, there)
 
-pub operation_goes : (names : List Name) (Wide Misses : Type 0) → length names ≤ most_parameters → ¬ Wide → ¬ Misses
-    → GoesOn (OperationEnds names Wide Misses)
-operation_goes names Wide Misses few narrow found too_wide (inl many) = absurd (omega (arith, many, few))
-operation_goes names Wide Misses few narrow found too_wide (inr wide) = narrow wide.1
-operation_goes names Wide Misses few narrow found no_minimum h = found h.2
-operation_goes names Wide Misses few narrow found nested h = h
-operation_goes names Wide Misses few narrow found time_shapes h = h
-operation_goes names Wide Misses few narrow found unbounded h = h
-operation_goes names Wide Misses few narrow found several_times h = h
-operation_goes names Wide Misses few narrow found no_valuation h = h
-operation_goes names Wide Misses few narrow found not_assumed h = h
-
 -- where it makes a value, or more of which this is one, it does not end
 pub outcome_goes_of : {A F : Type 0} (of : A → KeptValue) (outcome : Result A F) (own names : List Name) (Wide : Type 0) → own ≡ names
     → IfOk outcome (λ a. IsKeptValue (of a)) → IfOk outcome (λ a. (of a).params ≡ own) → IfOk outcome (λ _. ¬ Wide)
@@ -135,7 +123,8 @@ pub outcome_goes : {F : Type 0} (outcome : Result KeptValue F) (own names : List
 outcome_goes outcome own names Wide same kept params narrow =
     outcome_goes_of (λ (value : KeptValue). value) outcome own names Wide same kept params narrow
 
-pub word_goes : {F : Type 0} (outcome : Result KeptValue F) (Wide Misses : Type 0) → IfOk outcome (λ _. ¬ Wide) → IfOk outcome (λ _. ¬ Misses)
+pub word_goes : {F : Type 0} (outcome : Result KeptValue F) (Wide Misses : Type 0) → IfOk outcome (λ _. ¬ Wide)
+    → IfOk outcome (λ _. ¬ Misses)
     → IfOk outcome (λ _. GoesOn (OperationEnds [] Wide Misses))
 word_goes (Ok made) Wide Misses narrow found = operation_goes [] Wide Misses (omega arith) narrow found
 word_goes (Err fault) Wide Misses narrow found = tt

@@ -128,8 +128,10 @@ module _ (scope : ScopeView) where
   }
 
   -- source, sink and schedule, where these parts and literals stand in the whole
-  module _ (expr source sink schedule : Expr) (one : Part) (parts : parts_of expr ≡ one ∷ (parts_of source ++ (parts_of sink ++ parts_of schedule)))
-      (literals : literals_of expr ≡ literals_of source ++ (literals_of sink ++ literals_of schedule)) (sound : IsSoundExpr scope expr) where
+  module _ (expr source sink schedule : Expr) (one : Part)
+      (parts : parts_of expr ≡ one ∷ (parts_of source ++ (parts_of sink ++ parts_of schedule)))
+      (literals : literals_of expr ≡ literals_of source ++ (literals_of sink ++ literals_of schedule))
+      (sound : IsSoundExpr scope expr) where
     three_quiet : (test : Part → Bool) → list_any test (parts_of expr) ≡ false
         → (list_any test (parts_of source) ≡ false) × (list_any test (parts_of sink) ≡ false) × (list_any test (parts_of schedule) ≡ false)
     three_quiet test none =

@@ -15,7 +15,7 @@ use Rattle.isl_operators.specs.Made.{IsApplicationOf}
 use Rattle.isl_kinds.specs.Parts.{parts_of, parts_of_postfix, parts_of_postfixes}
 use Rattle.isl_kinds.specs.Typed.{declared_of, declared_past, declared_of_post, joined_names}
 use Rattle.isl_values.specs.Live.{narrows, IsLiveOf, IsLiveUnder}
-use Rattle.isl_values.specs.State.{AtAssumed, StateView, scope_of, HasNumbersUpTo}
+use Rattle.isl_state.specs.State.{AtAssumed, StateView, scope_of, HasNumbersUpTo}
 use Rattle.isl_values.specs.Selection.{Selects, PostfixHas, PostSelects}
 use Rattle.isl_values.specs.Worked.{IsPostfixOf, IsWorkedPost}
 use Rattle.isl_values.specs.Ends.{CutUnder, End, Ends, EndsPostfix, EndsPost, GoesOn, PairEnds}
@@ -24,8 +24,9 @@ use Rattle.isl_values.proofs.PartLaws.{quiet_in}
 use Rattle.isl_values.proofs.NamesLaws.{past_more}
 use Rattle.isl_values.proofs.SameLaws.{at_assumed, itself, same_application, same_trans}
 use Rattle.isl_values.proofs.RowLaws.{post_more}
-use Rattle.isl_values.proofs.FirstLaws.{EndAlike, goes_alike, goes_both}
-use Rattle.isl_values.proofs.EndsLaws.{Before, pair_alike}
+use Rattle.isl_outcome.proofs.FirstLaws.{EndAlike, goes_alike, goes_both}
+use Rattle.isl_values.proofs.EndsLaws.{Before}
+use Rattle.isl_values.proofs.AlikeLaws.{pair_alike}
 use Rattle.isl_values.proofs.EndsLaws.{postfix_alike, post_ends_at, post_goes_more}
 use Rattle.isl_values.proofs.WorkedLaws.{post_worked_more}
 use Rattle.isl_values.proofs.ValueLaws.{IsMade, work, value_before, paid_same, paid_after, paid_in, unmade_in, unworked_after}
@@ -108,7 +109,8 @@ module _ (state : StateView) (postfix : Postfix) (expr : Expr) (is : postfix ≡
       → IsWhyNotFollowed state postfix left g h refusal
   argument_failed left g h refusal why =
       subst (λ (p : Postfix). IsWhyNotFollowed state p left g h refusal) (sym is)
-      (unworked_in true (work state.assumed (parts_of expr)) (Ends state expr) (EndsPostfix state left.params (Has left) (Apply expr)) g h refusal
+      (unworked_in true (work state.assumed (parts_of expr)) (Ends state expr)
+      (EndsPostfix state left.params (Has left) (Apply expr)) g h refusal
       (λ none. absurd (let no : ⊥ = cc in no)) (λ end ends. inl ends) why)
 
   module _ (left argument one : KeptValue) (g h k : Gauge) (made_of : IsMade state expr g h argument) (same : one ≡ argument) where
@@ -162,7 +164,8 @@ module _ (state : StateView) (postfix : Postfix) (expr : Expr) (is : postfix ≡
         → IsWhyNotFollowed state postfix left g k refusal
     application_failed refusal argument_goes why =
         subst (λ (p : Postfix). IsWhyNotFollowed state p left g k refusal) (sym is)
-        (unworked_after true (work state.assumed (parts_of expr)) true ApplyEnds (EndsPostfix state left.params (Has left) (Apply expr)) g h k refusal
+        (unworked_after true (work state.assumed (parts_of expr)) true ApplyEnds
+        (EndsPostfix state left.params (Has left) (Apply expr)) g h k refusal
         (λ none. absurd (let no : ⊥ = cc in no))
         (λ end ends. inr (argument_goes, (apply_alike end).0 ends)) own.1 why)
 
@@ -176,7 +179,8 @@ module _ (state : StateView) (postfix : Postfix) (expr : Expr) (is : postfix ≡
 pub record IsPostTo (state : StateView) (postfixes : List Postfix) (first : KeptValue) (n : ℕ) (g h : Gauge) (value : KeptValue)
     : Type 0 where
   pub made :
-      IsValueOf state.assumed (IsWorkedPost state first (take n postfixes)) (declared_of_post (scope_of state) first.params (take n postfixes))
+      IsValueOf state.assumed (IsWorkedPost state first (take n postfixes))
+      (declared_of_post (scope_of state) first.params (take n postfixes))
       (λ v x. PostSelects state v (Has first v) (take n postfixes) x) (unsigned_abs (limit_of g))
       (HasNoDefinitions first × (work state.assumed (parts_of_postfixes postfixes) ≡ false)) value
   pub paid : IsPaid (work state.assumed (parts_of_postfixes postfixes)) g h
@@ -223,7 +227,8 @@ module _ (state : StateView) (postfixes : List Postfix) (i : ℕ) (postfix : Pos
             live = one.0.live;
             params = one.0.params ∙ ap (λ (ps : List Name). declared_past (scope_of state) ps postfix) before.made.params
                 ∙ sym (past_more (scope_of state) first.params postfixes i postfix low is);
-            elements = λ v here. post_more state v (Has first v) (Has left v) (Has made v) postfixes i postfix low is (before.made.elements v here)
+            elements = λ v here. post_more state v (Has first v) (Has left v) (Has made v) postfixes i postfix low is
+                (before.made.elements v here)
                 (one.0.elements v here);
             numbers = one.0.numbers;
             definitions = λ plain. one.0.definitions (before.made.definitions plain, (with_postfix plain.1).1);

@@ -14,8 +14,8 @@ use Rattle.isl_expr.specs.declared.tree.Expr.TheBlock.{hidden-the_row-Expr-0, hi
 use Rattle.isl_operators.specs.Flow.{AnyHas}
 use Rattle.isl_operators.specs.Operations.{OperatorHas, WordHas}
 use Rattle.isl_kinds.specs.Typed.{declared_of}
-use Rattle.isl_values.specs.declared.list.ListPart.{ListPart}
-use Rattle.isl_values.specs.State.{StateView, scope_of}
+use Rattle.isl_state.specs.declared.list.ListPart.{ListPart}
+use Rattle.isl_state.specs.State.{StateView, scope_of}
 use Rattle.isl_values.specs.Worked.{PartHas, part_of_list, part_taken}
 use Rattle.isl_values.specs.Selection.{PostfixHas, Selects, SelectsAt, SelectsPastLinks, SelectsPastPostfixes, RowSelects, PostSelects}
 use Rattle.isl_values.proofs.SameLaws.{Elements, Same, itself, turned, same_operator, same_application}
@@ -33,7 +33,8 @@ module _ (state : StateView) (valuation : Valuation) where
   Selected expr x = Selects state expr valuation x
 
   -- ---- a word before an operand
-  pub selects_of-Prefix : (part : ListPart) (word : Word) (operand : Expr) → Same (λ x. SelectsAt state part (Prefix word operand) valuation x)
+  pub selects_of-Prefix : (part : ListPart) (word : Word) (operand : Expr)
+      → Same (λ x. SelectsAt state part (Prefix word operand) valuation x)
       (WordHas word (declared_of (scope_of state) operand) (λ v x. Selects state operand v x) valuation)
   unfolding hidden-the_row-Expr-0 denote.Hole.Carrier.hidden
   selects_of-Prefix part word operand =
@@ -41,7 +42,8 @@ module _ (state : StateView) (valuation : Valuation) where
 
   -- ---- source, sink and schedule
   pub selects_of-Any : (part : ListPart) (source sink schedule : Expr)
-      → Same (λ x. SelectsAt state part (Any source sink schedule) valuation x) (AnyHas (Selected source) (Selected sink) (Selected schedule))
+      → Same (λ x. SelectsAt state part (Any source sink schedule) valuation x)
+      (AnyHas (Selected source) (Selected sink) (Selected schedule))
   unfolding hidden-the_row-Expr-0 denote.Hole.Carrier.hidden
   selects_of-Any part source sink schedule = itself (AnyHas (Selected source) (Selected sink) (Selected schedule))
 
@@ -91,7 +93,8 @@ module _ (state : StateView) (valuation : Valuation) where
       → Same (λ x. SelectsAt state part (Row first links) valuation x) (RowSelects state valuation (Selected first) links)
   unfolding hidden-the_row-Expr-0 denote.Hole.Carrier.hidden
   selects_of-Row part first links =
-      subst (λ (ls : List Link). Same (λ x. SelectsAt state part (Row first links) valuation x) (RowSelects state valuation (Selected first) ls))
+      subst (λ (ls : List Link). Same (λ x. SelectsAt state part (Row first links) valuation x)
+      (RowSelects state valuation (Selected first) ls))
       (items_hidden-the_row-Link-1 links) (links_are _ (Selected first) (hidden-the_row-Link-1 links))
 
   -- ---- what follows an operand

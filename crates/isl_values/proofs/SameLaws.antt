@@ -15,9 +15,9 @@ use Rattle.isl_operators.specs.Orders.{ComesAfter, ComesBefore, IsDownTo, IsUpTo
 use Rattle.isl_operators.specs.Operations.{IsIn, OperatorHas, OrderedHas, WordHas, WordMisses, ApplicationHas}
 use Rattle.isl_assumed.specs.declared.assumed.Assumed.{Assumed}
 use Rattle.isl_assumed.specs.Assumed.{Assumes}
-use Rattle.isl_values.specs.State.{StateView, AtAssumed}
-use Rattle.isl_values.specs.declared.list.ListPart.{ListPart}
-use Rattle.isl_values.specs.declared.list.ListPart.TheVariants.{First, Second}
+use Rattle.isl_state.specs.State.{StateView, AtAssumed}
+use Rattle.isl_state.specs.declared.list.ListPart.{ListPart}
+use Rattle.isl_state.specs.declared.list.ListPart.TheVariants.{First, Second}
 use Rattle.isl_values.specs.Worked.{Dependence, PartHas}
 
 -- at one valuation

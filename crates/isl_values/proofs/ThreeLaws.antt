@@ -1,4 +1,4 @@
--- What is worked out of source, sink and schedule, and of both parts of a list.
+-- What is worked out of source, sink and schedule.
 use Rattle.std.proofs.Common.{◌≡◌, ◌∙◌, inl, inr, ℕ, true, false, List, ◌∷◌, ◌++◌, sym, ap, ap₂, subst}
 use Rattle.std.proofs.lemmas.Bool.{false≢true}
 use Rattle.std.specs.Prelude.{unsigned_abs}
@@ -8,13 +8,7 @@ use Rattle.isl_space.specs.Name.{Name}
 use Rattle.isl_space.specs.Valuation.{Valuation}
 use Rattle.isl_union.specs.KeptValue.{KeptValue, Has}
 use Rattle.isl_text.specs.declared.refusal.Refusal.{Refusal}
-use Rattle.isl_tree.specs.declared.tree.Literal.{Literal}
-use Rattle.isl_expr.specs.declared.tree.Prefix.{Prefix as Word}
-use Rattle.isl_expr.specs.declared.tree.Link.{Link}
-use Rattle.isl_expr.specs.declared.tree.Postfix.{Postfix}
-use Rattle.isl_expr.specs.declared.tree.Expr as e
-use Rattle.isl_expr.specs.declared.tree.Expr.{Expr, Row, Prefix, Any, Last, Post}
-use Rattle.isl_expr.specs.declared.tree.Expr.TheBlock.{hidden-the_row-Expr-0}
+use Rattle.isl_expr.specs.declared.tree.Expr.{Expr, Any, Last}
 use Rattle.isl_expr.specs.Expr.{literals_of}
 use Rattle.isl_expr.proofs.Literals.{literals_of-Any, literals_of-Last}
 use Rattle.isl_operators.specs.Flow.{AnyHas}
@@ -27,22 +21,23 @@ use Rattle.isl_kinds.proofs.PartLaws.{parts_of-Any, parts_of-Last}
 use Rattle.isl_kinds.specs.Typed.{declared_of, joined_names}
 use Rattle.isl_kinds.proofs.DeclaredLaws.{declared_of-Any, declared_of-Last}
 use Rattle.isl_values.specs.declared.dependence.Accesses.{Accesses}
-use Rattle.isl_values.specs.declared.list.ListPart.{ListPart}
-use Rattle.isl_values.specs.declared.list.ListPart.TheVariants.{First, Second}
-use Rattle.isl_values.specs.declared.list.ListValue.{ListValue}
+use Rattle.isl_state.specs.declared.list.ListPart.{ListPart}
+use Rattle.isl_state.specs.declared.list.ListPart.TheVariants.{First, Second}
+use Rattle.isl_state.specs.declared.list.ListValue.{ListValue}
 use Rattle.isl_values.specs.Live.{IsLiveOf}
-use Rattle.isl_values.specs.State.{AtAssumed, StateView, scope_of}
+use Rattle.isl_state.specs.State.{AtAssumed, StateView, scope_of}
 use Rattle.isl_values.specs.Worked.{Dependence, IsWorked, IsWorkedAt, PartHas}
 use Rattle.isl_values.specs.Selection.{Selects, SelectsAt}
 use Rattle.isl_values.specs.Ends.{End, DependenceEnds, Ends, FirstEnds, GoesOn}
 use Rattle.isl_values.specs.Made.{IsSoundExpr, IsPaid, IsWhyUnworked}
 use Rattle.isl_values.specs.Three.{AreBothOf, AreKeptWithin, AreMade, AreAllLive, AreLiveOfThree, IsLiveOfThree, IsValueAt}
-use Rattle.isl_values.specs.Three.{IsWhole, names_of_accesses, OperandsEnd, ThreeEndAt}
+use Rattle.isl_values.specs.Three.{names_of_accesses, OperandsEnd, ThreeEndAt}
 use Rattle.isl_values.proofs.SameLaws.{at_assumed, DependsOnElements, Same, same_part, same_three, same_trans, turned}
 use Rattle.isl_values.proofs.RowLaws.{selects_of-Any, selects_of-Last}
 use Rattle.isl_values.proofs.WorkedLaws.{worked_of-Any, worked_of-Last}
-use Rattle.isl_values.proofs.FirstLaws.{EndAlike, goes_alike, goes_both, turned_alike}
-use Rattle.isl_values.proofs.EndsLaws.{dependence_alike, ends_of-Any, ends_of-Last, DependenceOf}
+use Rattle.isl_outcome.proofs.FirstLaws.{EndAlike, goes_alike, goes_both, turned_alike}
+use Rattle.isl_values.proofs.EndsLaws.{ends_of-Any, ends_of-Last, DependenceOf}
+use Rattle.isl_values.proofs.AlikeLaws.{dependence_alike}
 use Rattle.isl_values.proofs.PartLaws.{sound_source, sound_sink, sound_schedule}
 use Rattle.isl_values.proofs.ValueLaws.{IsMade, IsMadeAt, work, value_before, numbers_later, paid_after, paid_works}
 use Rattle.isl_values.proofs.ValueLaws.{unworked_after, unworked_in}
@@ -55,7 +50,8 @@ module _ (state : StateView) (source sink schedule : Expr) where
   abbrev AllEnd : End → Type 0
   AllEnd = OperandsEnd state source sink schedule
 
-  pub source_failed : (g h : Gauge) (refusal : Refusal) → IsWhyUnworked (work state.assumed (parts_of source)) (Ends state source) g h refusal
+  pub source_failed : (g h : Gauge) (refusal : Refusal)
+      → IsWhyUnworked (work state.assumed (parts_of source)) (Ends state source) g h refusal
       → IsWhyUnworked true AllEnd g h refusal
   source_failed g h refusal why =
       unworked_in true (work state.assumed (parts_of source)) (Ends state source) AllEnd g h refusal nothing_free (λ end ends. inl ends) why
@@ -74,7 +70,8 @@ module _ (state : StateView) (source sink schedule : Expr) where
       pub both_charged : IsCharged g k
       both_charged = IsCharged_trans g h k first.1.charged second.1.charged
 
-      pub schedule_failed : (m : Gauge) (refusal : Refusal) → IsWhyUnworked (work state.assumed (parts_of schedule)) (Ends state schedule) k m refusal
+      pub schedule_failed : (m : Gauge) (refusal : Refusal)
+          → IsWhyUnworked (work state.assumed (parts_of schedule)) (Ends state schedule) k m refusal
           → IsWhyUnworked true AllEnd g m refusal
       schedule_failed m refusal why =
           unworked_after true true (work state.assumed (parts_of schedule)) (Ends state schedule) AllEnd g k m refusal nothing_free
@@ -132,7 +129,8 @@ pub record IsOfOperands (state : StateView) (at : ListPart) (expr source sink sc
   pub works : work state.assumed (parts_of expr) ≡ true
   pub literals : literals_of expr ≡ literals_of source ++ (literals_of sink ++ literals_of schedule)
   pub names : declared_of (scope_of state) expr
-      ≡ joined_names (joined_names (declared_of (scope_of state) source) (declared_of (scope_of state) sink)) (declared_of (scope_of state) schedule)
+      ≡ joined_names (joined_names (declared_of (scope_of state) source) (declared_of (scope_of state) sink))
+      (declared_of (scope_of state) schedule)
   pub selects : (v : Valuation)
       → Same (SelectsAt state at expr v) (Depends (Selects state source v) (Selects state sink v) (Selects state schedule v))
   pub worked : (a b c value : KeptValue) → IsWorked state source a → IsWorked state sink b → IsWorked state schedule c
@@ -208,7 +206,8 @@ module _ (state : StateView) (at : ListPart) (expr source sink schedule : Expr) 
     same_names =
         ap₂ joined_names (ap₂ joined_names made_of.first.params made_of.second.params) made_of.third.params ∙ sym of.names
 
-    pub dependence_made : (value : KeptValue) → IsLiveOfThree state.assumed Depends three (unsigned_abs (limit_of h)) value × IsPaid true h k
+    pub dependence_made : (value : KeptValue) → IsLiveOfThree state.assumed Depends three (unsigned_abs (limit_of h)) value
+        × IsPaid true h k
         → IsMadeAt state at expr g k value
     dependence_made value made = (
       value_before g h (IsWorkedAt state at expr) (declared_of (scope_of state) expr) (SelectsAt state at expr) value charged (record {
@@ -217,7 +216,8 @@ module _ (state : StateView) (at : ListPart) (expr source sink schedule : Expr) 
         kept = made.0.kept;
         live = made.0.live;
         params = made.0.params ∙ same_names;
-        elements = λ v here. same_trans (Has value v) (Depends (Has three.source.value v) (Has three.sink.value v) (Has three.schedule.value v))
+        elements = λ v here. same_trans (Has value v)
+            (Depends (Has three.source.value v) (Has three.sink.value v) (Has three.schedule.value v))
             (SelectsAt state at expr v) (made.0.elements v here)
             (same_trans (Depends (Has three.source.value v) (Has three.sink.value v) (Has three.schedule.value v))
             (Depends (Selects state source v) (Selects state sink v) (Selects state schedule v)) (SelectsAt state at expr v)
@@ -237,14 +237,16 @@ module _ (state : StateView) (at : ListPart) (expr source sink schedule : Expr) 
     three_alike =
         let Source = λ (v : Valuation). Selects state source v in
         let Sink = λ (v : Valuation). Selects state sink v in
-        subst (λ (names : List Name). EndAlike (ThreeEndAt state three) (DependenceEnds names (AtAssumed state Source) (AtAssumed state Sink))) (same_names ∙ of.names)
+        subst (λ (names : List Name). EndAlike (ThreeEndAt state three)
+        (DependenceEnds names (AtAssumed state Source) (AtAssumed state Sink))) (same_names ∙ of.names)
         (dependence_alike (names_of_accesses three) (AtAssumed state (Has three.source.value)) (AtAssumed state Source)
         (AtAssumed state (Has three.sink.value)) (AtAssumed state Sink)
         (at_assumed state (Has three.source.value) Source made_of.first.elements)
         (at_assumed state (Has three.sink.value) Sink made_of.second.elements))
 
     pub dependence_failed : (refusal : Refusal) → GoesOn (OperandsEnd state source sink schedule)
-        → IsWhyUnworked true (ThreeEndAt state three) h k refusal → IsWhyUnworked (work state.assumed (parts_of expr)) (Ends state expr) g k refusal
+        → IsWhyUnworked true (ThreeEndAt state three) h k refusal
+        → IsWhyUnworked (work state.assumed (parts_of expr)) (Ends state expr) g k refusal
     dependence_failed refusal operands_go why =
         unworked_after (work state.assumed (parts_of expr)) true true (ThreeEndAt state three) (Ends state expr) g h k refusal working
         (λ end here. (of.ends end).0 (inr (operands_go, (three_alike end).0 here))) (paid_works g h charged) why
@@ -261,54 +263,9 @@ pub list_made : (state : StateView) (expr source sink schedule : Expr) (is : exp
     → AreLiveOfThree state.assumed three (unsigned_abs (limit_of h)) list × IsPaid true h k
     → AreBothOf state expr (unsigned_abs (limit_of g)) list × IsPaid (work state.assumed (parts_of expr)) g k
 list_made state expr source sink schedule is g h k three made_of charged list made =
-    let first = dependence_made state First expr source sink schedule (PartHas First) (same_part First) (is_last state First expr source sink schedule is)
+    let first = dependence_made state First expr source sink schedule (PartHas First) (same_part First)
+    (is_last state First expr source sink schedule is)
     g h k three made_of charged list.first.value (made.0.0, made.1) in
     let second = dependence_made state Second expr source sink schedule (PartHas Second) (same_part Second)
     (is_last state Second expr source sink schedule is) g h k three made_of charged list.second.value (made.0.1, made.1) in
     ((first.0, second.0), first.1)
-
--- ---- what is no list
--- both parts of it are worked out, and selected, in one way
-whole_by : (state : StateView) (expr : Expr)
-    → ((value : KeptValue) → IsWorkedAt state First expr value → IsWorkedAt state Second expr value)
-    → ((v : Valuation) → Same (SelectsAt state First expr v) (SelectsAt state Second expr v)) → IsWhole state expr
-whole_by state expr worked selects limit value made = record {
-  written = worked value made.written;
-  kept = made.kept;
-  live = made.live;
-  params = made.params;
-  elements = λ v here. same_trans (Has value v) (SelectsAt state First expr v) (SelectsAt state Second expr v) (made.elements v here) (selects v);
-  numbers = made.numbers;
-  definitions = made.definitions;
-}
-
-pub literal_whole : (state : StateView) (expr : Expr) (literal : Literal) → expr ≡ e.Literal literal → IsWhole state expr
-literal_whole state expr literal is =
-    subst (IsWhole state) (sym is) (whole_by state (e.Literal literal) (λ value h. h) (λ v x. ((λ h. h), (λ h. h))))
-
-pub row_whole : (state : StateView) (expr first : Expr) (links : List Link) → expr ≡ Row first links → IsWhole state expr
-unfolding hidden-the_row-Expr-0 denote.Hole.Carrier.hidden
-row_whole state expr first links is =
-    subst (IsWhole state) (sym is) (whole_by state (Row first links) (λ value h. h) (λ v x. ((λ h. h), (λ h. h))))
-
-pub post_whole : (state : StateView) (expr operand : Expr) (postfixes : List Postfix) → expr ≡ Post operand postfixes → IsWhole state expr
-unfolding hidden-the_row-Expr-0 denote.Hole.Carrier.hidden
-post_whole state expr operand postfixes is =
-    subst (IsWhole state) (sym is) (whole_by state (Post operand postfixes) (λ value h. h) (λ v x. ((λ h. h), (λ h. h))))
-
-pub word_whole : (state : StateView) (expr : Expr) (word : Word) (operand : Expr) → expr ≡ Prefix word operand → IsWhole state expr
-unfolding hidden-the_row-Expr-0 denote.Hole.Carrier.hidden
-word_whole state expr word operand is =
-    subst (IsWhole state) (sym is) (whole_by state (Prefix word operand) (λ value h. h) (λ v x. ((λ h. h), (λ h. h))))
-
-pub any_whole : (state : StateView) (expr source sink schedule : Expr) → expr ≡ Any source sink schedule → IsWhole state expr
-unfolding hidden-the_row-Expr-0 denote.Hole.Carrier.hidden
-any_whole state expr source sink schedule is =
-    subst (IsWhole state) (sym is) (whole_by state (Any source sink schedule) (λ value h. h) (λ v x. ((λ h. h), (λ h. h))))
-
-pub doubled_both : (state : StateView) (expr : Expr) (limit : ℕ) (value : KeptValue) (list : ListValue) → IsWhole state expr
-    → IsValueAt state First expr limit value → (list.first.value ≡ value) × (list.second.value ≡ value) → AreBothOf state expr limit list
-doubled_both state expr limit value list whole made are = (
-  subst (IsValueAt state First expr limit) (sym are.0) made,
-  subst (IsValueAt state Second expr limit) (sym are.1) (whole limit value made),
-)

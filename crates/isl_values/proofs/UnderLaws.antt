@@ -1,8 +1,8 @@
 -- Operands at assumed valuations alone.
-use Rattle.std.proofs.Common.{◌≡◌, ◌∙◌, ◌↔◌, ◌++◌, ℕ, Bool, true, false, List, [], All, Contains, refl, sym, ap, subst, inl, inr, ◌⊎◌}
+use Rattle.std.proofs.Common.{◌≡◌, ◌∙◌, ◌↔◌, ◌++◌, ℕ, true, false, List, [], All, Contains, refl, sym, subst, inl, inr, ◌⊎◌}
 use Rattle.std.proofs.Common.{◌<◌, get_or, length}
-use Rattle.std.specs.Prelude.{◌||◌, IfOk, MatchResult, Result, Ok, Err, unsigned_abs}
-use Rattle.std.proofs.lemmas.Bool.{false≢true, or_parts}
+use Rattle.std.specs.Prelude.{IfOk, MatchResult, Result, Ok, Err, unsigned_abs}
+use Rattle.std.proofs.lemmas.Bool.{false≢true}
 use Rattle.std.proofs.lemmas.List.Elements.{All-contains_itself, All-nil}
 use Rattle.std.proofs.lemmas.List.Folds.{list_any_at}
 use Rattle.std.proofs.lemmas.Slice.Eq.{bytes_eq-Decides}
@@ -16,7 +16,6 @@ use Rattle.isl_space.specs.Names.{is_among, joined}
 use Rattle.isl_space.proofs.NamesLaws.{joined-nothing_new}
 use Rattle.isl_space.specs.Element.{Element}
 use Rattle.isl_space.specs.Name.{Name}
-use Rattle.isl_space.specs.SpaceForm.{SpaceForm}
 use Rattle.isl_space.specs.Valuation.{Valuation, values_of}
 use Rattle.isl_piece.specs.System.{HoldsSystem}
 use Rattle.isl_union.specs.KeptValue.{KeptPiece, KeptValue, Has, HasElement, HasNoDefinitions, IsKeptValue, piece_system}
@@ -28,28 +27,15 @@ use Rattle.isl_assumed.specs.declared.assumed.Assumed.{Assumed}
 use Rattle.isl_assumed.specs.declared.assumed.Assumed.TheVariants.{Nothing, Where}
 use Rattle.isl_assumed.specs.Assumed.{Assumes, AssumesSome, IsOver as IsOverNames, names_of}
 use Rattle.isl_assumed.proofs.RegionLaws.{values_same}
-use Rattle.isl_expr.specs.declared.tree.Prefix.{Prefix}
-use Rattle.isl_expr.specs.declared.tree.Prefix.TheVariants as p
-use Rattle.isl_operators.specs.Point.{Point, map_element, set_element}
-use Rattle.isl_operators.specs.Extremes.{HasFirst}
-use Rattle.isl_operators.specs.Orders.{ComesAfter, ComesBefore}
-use Rattle.isl_operators.specs.Operations.{WordHas, WordMisses}
-use Rattle.isl_operators.specs.Formed.{FormsWide, WordForms}
-use Rattle.isl_operators.specs.Made.{word_works, IsWordOf}
 use Rattle.isl_text.specs.declared.refusal.Refusal.{Refusal}
-use Rattle.isl_values.specs.Live.{narrows, IsLiveOf, IsLivePart, IsLiveUnder, IsOperandIn, IsOperandOf, IsUnderOf}
-use Rattle.isl_values.specs.State.{AtAssumed, StateView, HasNumbersUpTo}
-use Rattle.isl_values.specs.Worked.{looks, IsAskedOf, IsWordedOf}
-use Rattle.isl_values.specs.Ends.{CutAlone, CutUnder, GoesOn, OperationEnds, WordEnds}
+use Rattle.isl_values.specs.Live.{narrows, IsOperandIn, IsOperandOf, IsUnderOf}
+use Rattle.isl_state.specs.State.{StateView, HasNumbersUpTo}
+use Rattle.isl_values.specs.Ends.{CutAlone, CutUnder, OperationEnds}
 use Rattle.isl_values.specs.Ends as ends
-use Rattle.isl_values.specs.Made.{refusal_of_fault, IsMadeOf, IsPaid, IsValueOf, IsWhyUnmade, IsWhyUnworked}
-use Rattle.isl_values.specs.Three.{IsAsked}
-use Rattle.isl_values.proofs.FirstLaws.{EndAlike, goes_alike, operation_alike}
-use Rattle.isl_values.proofs.CutLaws.{operation_cut}
-use Rattle.isl_values.proofs.LiveLaws.{forms_live, live_answer}
-use Rattle.isl_values.proofs.SameLaws.{Same, has_first, itself, same_trans, same_word}
+use Rattle.isl_values.specs.Made.{refusal_of_fault, IsPaid, IsWhyUnmade, IsWhyUnworked}
+use Rattle.isl_values.proofs.SameLaws.{Same, itself}
 use Rattle.isl_values.proofs.OutcomeLaws.{answered_made, IsAnswer}
-use Rattle.isl_values.proofs.ValueLaws.{made_before, match_map, ok_map, paid_after, paid_same, unworked_after}
+use Rattle.isl_values.proofs.ValueLaws.{match_map, ok_map, paid_same}
 
 -- ---- elements
 -- a value has the same elements where its parameters have the same numbers
@@ -133,7 +119,8 @@ module _ (names : List Name) (value empty : KeptValue) (is : empty ≡ empty_ove
       (joined-nothing_new names value.params
       (λ i d within. among names (get_or value.params i d) (declared i d within)))
 
-  pub over_fault : (g h : Gauge) (fault : OpFault) → h ≡ g → IsPlainFault (joined empty.params value.params) fault → IsFaultBy names g h fault
+  pub over_fault : (g h : Gauge) (fault : OpFault) → h ≡ g → IsPlainFault (joined empty.params value.params) fault
+      → IsFaultBy names g h fault
   over_fault g h op_fault.TooWide same wide = (subst (λ (ns : List Name). most_parameters < length ns) over_names wide, same)
   over_fault g h (op_fault.Cut cut) same ended =
       (inr ended, subst (λ (c : Cut). IsCutBy g h c) (sym ended) (IsCutBy-charged g h (IsCharged_refl g h same)))
@@ -237,7 +224,8 @@ module _ {A : Type 0} (of : A → KeptValue) (state : StateView) (here : Assumed
         → MatchResult answer (λ a. IsOperandOf state.assumed names most value (of a) × IsPaid (narrows state.assumed) g h)
         (IsWhyUnworked (narrows state.assumed) (OperationEnds names ⊥ ⊥) g h)
     joined_answer outcome answer is good units =
-        answered_made refusal_of_fault (narrows state.assumed) (IsFaultBy own g h) (OperationEnds names ⊥ ⊥) g h joined_fault of outcome answer
+        answered_made refusal_of_fault (narrows state.assumed) (IsFaultBy own g h)
+        (OperationEnds names ⊥ ⊥) g h joined_fault of outcome answer
         (IsOperandOf state.assumed names most value) is (ok_map outcome _ _ operand_there good)
         (match_map outcome _ _ _ _ (λ u charged. paid_some state.assumed g h some charged) (λ fault why. why) units)
 
@@ -262,153 +250,8 @@ operands_part assumed names left right one other first second mine theirs = (
         let both = (first.elements v x).0 has in
         let w = both.1.0 in
         let at_left : Has left w x = has_same left w v (sym (values_same names left.params v w mine both.1.1)) x both.0 in
-        (second.elements v x).1 (has_same right v w (values_same names right.params v w theirs both.1.1) x (part w both.1.2 x at_left), both.1)
-
--- ---- words
-module _ (state : StateView) (operand asked : KeptValue) (live : IsLiveUnder state.assumed operand) where
-  abbrev There : Valuation → Element → Type 0
-  There = AtAssumed state (Has operand)
-
-  -- at an assumed valuation a word is asked of what the operand has
-  pub asked_here : (b : Bool) → IsAskedOf state b operand asked → (v : Valuation) → Assumes state.assumed v → Same (Has asked v) (Has operand v)
-  asked_here true is v here = under_here state.assumed operand.params operand asked is v here
-  asked_here false is v here = subst (λ (u : KeptValue). Same (Has u v) (Has operand v)) (sym is) (itself (Has operand v))
-
-  pub asked_params : (b : Bool) → IsAskedOf state b operand asked → asked.params ≡ operand.params
-  asked_params true is = by state.assumed is
-    where
-      by : (assumed : Assumed) → IsUnderOf assumed operand.params operand asked → asked.params ≡ operand.params
-      by Nothing same = ap (λ (u : KeptValue). u.params) same
-      by (Where region) over = over.params
-  asked_params false is = ap (λ (u : KeptValue). u.params) is
-
-  -- the same at an assumed valuation
-  at_one : IsUnderOf state.assumed operand.params operand asked → (v : Valuation) → Assumes state.assumed v → Same (Has asked v) (There v)
-  at_one is v here x = (
-    (λ h. (here, (under_here state.assumed operand.params operand asked is v here x).0 h)),
-    (λ h. (under_here state.assumed operand.params operand asked is v here x).1 h.1),
-  )
-
-  -- where the operand is asked of has an element, it has what the other has at some assumed valuation
-  at_some : IsUnderOf state.assumed operand.params operand asked → (v : Valuation) (x : Element) → Has asked v x
-      → (w : Valuation) × Same (There w) (Has asked v)
-  at_some is v x has = by state.assumed is
-    where
-      by : (assumed : Assumed) → IsUnderOf assumed operand.params operand asked
-          → (w : Valuation) × Same (λ y. Assumes assumed w × Has operand w y) (Has asked v)
-      by Nothing same = (
-        v,
-        λ y. (
-          (λ h. subst (λ (u : KeptValue). Has u v y) (sym same) h.1),
-          (λ h. (tt, subst (λ (u : KeptValue). Has u v y) same h)),
-        ),
-      )
-      by (Where region) over =
-          let some = ((over.elements v x).0 has).1 in
-          let w = some.0 in (
-            w,
-            λ y. (
-              (λ h. (over.elements v y).1 (has_same operand v w some.1 y h.1, some)),
-              (λ h. (some.2, has_same operand w v (sym some.1) y ((over.elements v y).0 h).0)),
-            ),
-          )
-
-  module _ (Ordered : Point → Point → Type 0) (is : IsUnderOf state.assumed operand.params operand asked) where
-    first_there : ((v : Valuation) → HasFirst Ordered (Has asked v)) → (v : Valuation) → HasFirst Ordered (There v)
-    first_there all v = record {
-      sets = λ x has. (has_first (Has asked v) (There v) (at_one is v has.has.0) Ordered (all v)).sets x has;
-      maps = λ x y has. (has_first (Has asked v) (There v) (at_one is v has.has.0) Ordered (all v)).maps x y has;
-    }
-
-    first_asked : ((v : Valuation) → HasFirst Ordered (There v)) → (v : Valuation) → HasFirst Ordered (Has asked v)
-    first_asked all v = record {
-      sets = λ x has. let w = at_some is v (set_element x) has.has in
-          (has_first (There w.0) (Has asked v) w.1 Ordered (all w.0)).sets x has;
-      maps = λ x y has. let w = at_some is v (map_element x y) has.has in
-          (has_first (There w.0) (Has asked v) w.1 Ordered (all w.0)).maps x y has;
-    }
-
-  asked_misses : (word : Prefix) → IsAskedOf state (looks word) operand asked → WordMisses word (Has asked) ↔ WordMisses word There
-  asked_misses p.LexMin is = ((λ no all. no (first_asked ComesBefore is all)), (λ no all. no (first_there ComesBefore is all)))
-  asked_misses p.LexMax is = ((λ no all. no (first_asked ComesAfter is all)), (λ no all. no (first_there ComesAfter is all)))
-  asked_misses _ is = ((λ h. absurd h), (λ h. absurd h))
-
-  forms_asked : (Forms : SpaceForm → SpaceForm → Type 0) → asked ≡ operand → FormsWide Forms (Has asked) ↔ FormsWide Forms There
-  forms_asked Forms is = subst (λ (u : KeptValue). FormsWide Forms (Has u) ↔ FormsWide Forms There) (sym is) (forms_live state Forms operand live)
-
-  asked_forms : (word : Prefix) → IsAskedOf state (looks word) operand asked
-      → FormsWide (WordForms word) (Has asked) ↔ FormsWide (WordForms word) There
-  asked_forms p.LexMin is = ((λ h. absurd h.3), (λ h. absurd h.3))
-  asked_forms p.LexMax is = ((λ h. absurd h.3), (λ h. absurd h.3))
-  asked_forms p.Domain is = forms_asked (WordForms p.Domain) is
-  asked_forms p.Range is = forms_asked (WordForms p.Range) is
-  asked_forms p.Deltas is = forms_asked (WordForms p.Deltas) is
-  asked_forms p.Identity is = forms_asked (WordForms p.Identity) is
-  asked_forms p.Wrap is = forms_asked (WordForms p.Wrap) is
-  asked_forms p.Unwrap is = forms_asked (WordForms p.Unwrap) is
-  asked_forms p.Zip is = forms_asked (WordForms p.Zip) is
-  asked_forms p.DomainMap is = forms_asked (WordForms p.DomainMap) is
-  asked_forms p.RangeMap is = forms_asked (WordForms p.RangeMap) is
-  asked_forms p.Coalesce is = forms_asked (WordForms p.Coalesce) is
-  asked_forms p.Sample is = forms_asked (WordForms p.Sample) is
-  asked_forms p.Scan is = forms_asked (WordForms p.Scan) is
-  asked_forms p.Codegen is = forms_asked (WordForms p.Codegen) is
-
-  -- the word ends for what it is asked of as it does for what the operand has at assumed valuations
-  pub asked_alike : (word : Prefix) → IsAskedOf state (looks word) operand asked → EndAlike (WordEnds word (Has asked)) (WordEnds word There)
-  asked_alike word is = operation_alike [] _ _ _ _ (asked_forms word is) (asked_misses word is)
-
-  pub asked_goes : (word : Prefix) → IsAskedOf state (looks word) operand asked → GoesOn (WordEnds word (Has asked)) → GoesOn (WordEnds word There)
-  asked_goes word is goes = goes_alike (WordEnds word (Has asked)) (WordEnds word There) (asked_alike word is) goes
-
-  -- what is live of what the word makes of it
-  pub worded_value : (word : Prefix) (limit : ℕ) (part : KeptValue) → IsAsked state word limit operand asked
-      → IsValueOf state.assumed (IsLiveOf state.assumed (IsWordOf word asked)) asked.params (WordHas word asked.params (Has asked)) limit
-      (HasNoDefinitions asked) part
-      → IsValueOf state.assumed (IsWordedOf state word operand) operand.params (WordHas word operand.params (Has operand)) limit
-      (HasNoDefinitions operand) part
-  worded_value word limit part is made =
-      let names = asked_params (looks word) is.of in record {
-        written = (asked, is.of, made.written);
-        kept = made.kept;
-        live = made.live;
-        params = made.params ∙ names;
-        elements = λ v here. same_trans (Has part v) (WordHas word asked.params (Has asked) v) (WordHas word operand.params (Has operand) v)
-            (made.elements v here)
-            (subst (λ (ns : List Name). Same (WordHas word asked.params (Has asked) v) (WordHas word ns (Has operand) v)) names
-            (same_word word asked.params (Has asked) (Has operand) v (asked_here (looks word) is.of v here)));
-        numbers = made.numbers;
-        definitions = λ plain. made.definitions (is.definitions plain);
-      }
-
-  module _ (word : Prefix) (g m h : Gauge) (is : IsAsked state word (unsigned_abs (limit_of g)) operand asked)
-      (first : IsPaid (narrows state.assumed) g m) where
-    abbrev pub Works : Bool
-    Works = word_works word || narrows state.assumed
-
-    first_quiet : Works ≡ false → (narrows state.assumed ≡ false) × (word_works word ≡ false)
-    first_quiet none = let both = or_parts (word_works word) (narrows state.assumed) none in (both.1, both.0)
-
-    -- the word makes none of it
-    pub changed_failed : (refusal : Refusal) → IsWhyUnworked (word_works word) (WordEnds word (Has asked)) m h refusal
-        → IsWhyUnworked Works (WordEnds word There) g h refusal
-    changed_failed refusal why =
-        unworked_after Works (narrows state.assumed) (word_works word) (WordEnds word (Has asked)) (WordEnds word There) g m h refusal first_quiet
-        (λ end ends. (asked_alike word is.of end).0 ends) first why
-
-    module _ (k : Gauge) (made : KeptValue) (goes : GoesOn (WordEnds word (Has asked)))
-        (second : IsMadeOf (IsWordOf word asked) asked.params (WordHas word asked.params (Has asked)) (unsigned_abs (limit_of m))
-        (HasNoDefinitions asked) made × IsPaid (word_works word) m h) where
-      pub worded_answer : {A : Type 0} (of : A → KeptValue) (result : Result A Refusal)
-          → MatchResult result (λ a. IsLivePart state.assumed made (of a) × IsCharged h k) (IsWhyUnmade true CutAlone h k)
-          → (narrows state.assumed ≡ false → MatchResult result (λ _. k ≡ h) (λ _. ⊥))
-          → MatchResult result
-          (λ a. IsValueOf state.assumed (IsWordedOf state word operand) operand.params (WordHas word operand.params (Has operand))
-          (unsigned_abs (limit_of g)) (HasNoDefinitions operand) (of a) × IsPaid Works g k)
-          (IsWhyUnworked Works (WordEnds word There) g k)
-      worded_answer of result part free =
-          match_map result _ _ _ _ (λ a v. (worded_value word (unsigned_abs (limit_of g)) (of a) is v.0, v.1)) (λ refusal why. inl why)
-          (live_answer state.assumed (IsWordOf word asked) asked.params (WordHas word asked.params (Has asked)) g h k made
-          (made_before g m (IsWordOf word asked) asked.params (WordHas word asked.params (Has asked)) made first.charged second.0) Works
-          (WordEnds word There) (paid_after Works (narrows state.assumed) (word_works word) g m h first_quiet first second.1)
-          (λ some. operation_cut [] _ _ (asked_goes word is.of goes)) Works (λ none. (none, (first_quiet none).0)) of result part free)
+        (second.elements v x).1 (
+          has_same right v w (values_same names right.params v w theirs both.1.1) x
+              (part w both.1.2 x at_left),
+          both.1,
+        )

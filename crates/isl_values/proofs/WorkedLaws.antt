@@ -13,10 +13,11 @@ use Rattle.isl_expr.specs.declared.tree.Expr.TheBlock.{hidden-the_row-Expr-0, hi
 use Rattle.isl_operators.specs.Operations.{is_operation_word}
 use Rattle.isl_operators.specs.Flow.{AnyHas}
 use Rattle.isl_operators.specs.Made.{IsDependenceOf, IsOperatorOf}
-use Rattle.isl_values.specs.declared.list.ListPart.{ListPart}
+use Rattle.isl_state.specs.declared.list.ListPart.{ListPart}
 use Rattle.isl_values.specs.Live.{IsLiveOf}
-use Rattle.isl_values.specs.State.{StateView}
-use Rattle.isl_values.specs.Worked.{IsPostfixOf, IsWordedOf, IsWorked, IsWorkedAt, IsWorkedPastLinks, IsWorkedPastPostfixes, IsWorkedPost, IsWorkedRow}
+use Rattle.isl_state.specs.State.{StateView}
+use Rattle.isl_values.specs.Worked.{IsPostfixOf, IsWordedOf, IsWorked, IsWorkedAt, IsWorkedPastLinks, IsWorkedPastPostfixes, IsWorkedPost}
+use Rattle.isl_values.specs.Worked.{IsWorkedRow}
 use Rattle.isl_values.specs.Worked.{PartHas, part_of_list}
 use Rattle.isl_values.proofs.RowLaws.{part_is}
 
@@ -27,7 +28,8 @@ links_are : (m : Count) (state : StateView) (left value : KeptValue) (row : Row_
 links_are m state left value end_of-Link h = h
 links_are m state left value (more_of-Link operator operand row) h = (h.0, h.1, h.2, h.3, links_are _ state h.1 value row h.4)
 
-pub worked_of-Row : (state : StateView) (part : ListPart) (first : Expr) (links : List Link) (left value : KeptValue) → IsWorked state first left
+pub worked_of-Row : (state : StateView) (part : ListPart) (first : Expr) (links : List Link) (left value : KeptValue)
+    → IsWorked state first left
     → IsWorkedRow state left links value → IsWorkedAt state part (Row first links) value
 unfolding hidden-the_row-Expr-0 denote.Hole.Carrier.hidden
 worked_of-Row state part first links left value one all = (
@@ -38,7 +40,8 @@ worked_of-Row state part first links left value one all = (
 )
 
 row_push : (state : StateView) (first left right made : KeptValue) (links : List Link) (link : Link) → IsWorkedRow state first links left
-    → IsWorked state link.operand right → IsLiveOf state.assumed (IsOperatorOf link.operator left right) made → IsWorkedRow state first (links ++ link ∷ []) made
+    → IsWorked state link.operand right → IsLiveOf state.assumed (IsOperatorOf link.operator left right) made
+    → IsWorkedRow state first (links ++ link ∷ []) made
 row_push state first left right made [] link before behind joins =
     (right, made, behind, subst (λ (v : KeptValue). IsLiveOf state.assumed (IsOperatorOf link.operator v right) made) before joins, refl)
 row_push state first left right made (other ∷ links) link before behind joins =
@@ -86,7 +89,8 @@ module _ (state : StateView) (part : ListPart) (source sink schedule : Expr) (a 
   unfolding hidden-the_row-Expr-0 denote.Hole.Carrier.hidden
   worked_of-Any made = (a, b, c, first, second, third, made)
 
-  pub worked_of-Last : IsLiveOf state.assumed (IsDependenceOf (PartHas part) a b c) value → IsWorkedAt state part (Last source sink schedule) value
+  pub worked_of-Last : IsLiveOf state.assumed (IsDependenceOf (PartHas part) a b c) value
+      → IsWorkedAt state part (Last source sink schedule) value
   unfolding hidden-the_row-Expr-0 denote.Hole.Carrier.hidden
   worked_of-Last made = (a, b, c, first, second, third, made)
 

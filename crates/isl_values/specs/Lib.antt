@@ -1,12 +1,12 @@
 pub mod Live
-pub mod State
 pub mod Worked
 pub mod Selection
-pub mod Stored
 pub mod Made
 pub mod Ends
 pub mod Depth
 pub mod Three
+pub use Rattle.isl_state.specs.State
+pub use Rattle.isl_state.specs.Stored
 pub use Rattle.isl_kinds.specs.Typed
 pub use Rattle.isl_lower.specs.Value
 pub use Rattle.isl_operators.specs.Operations

@@ -1,5 +1,5 @@
--- public: values at assumed valuations of their parameters. (isl manual, on parameter domains)
-use Rattle.std.specs.Prelude.{◌≡◌, ◌⊎◌, ℕ, Bool, true, false, List, [], ◌∷◌, All}
+-- public: what operations are asked of at assumed valuations of parameters alone. (isl manual, on parameter domains)
+use Rattle.std.specs.Prelude.{◌≡◌, ◌⊎◌, ℕ, List, [], ◌∷◌}
 use Rattle.isl_meter.specs.Gauge.{Gauge}
 use Rattle.isl_space.specs.Element.{Element}
 use Rattle.isl_space.specs.Name.{Name}
@@ -10,26 +10,8 @@ use Rattle.isl_union.specs.Sample.{only_piece}
 use Rattle.isl_assumed.specs.declared.assumed.Assumed.{Assumed}
 use Rattle.isl_assumed.specs.declared.assumed.Assumed.TheVariants.{Nothing, Where}
 use Rattle.isl_assumed.specs.Assumed.{Assumes, AssumesSome}
-use Rattle.isl_assumed.specs.Values.{AreLiveUnder, IsDeadAt}
 use Rattle.isl_operators.specs.Made.{IsOver}
-
--- whether something is assumed
-abbrev pub narrows : Assumed → Bool
-narrows Nothing = false
-narrows (Where region) = true
-
--- each piece of the value has an element at an assumed valuation
-abbrev pub IsLiveUnder : Assumed → KeptValue → Type 0
-IsLiveUnder assumed value = All (λ piece. ¬ IsDeadAt (Assumes assumed) value.params piece) value.pieces
-
--- the pieces of the value that have an element at an assumed valuation, unchanged and in order: where nothing is assumed, all of them
-pub record IsLivePartOf (assumed : Assumed) (value part : KeptValue) : Type 0 where
-  pub params : part.params ≡ value.params
-  pub pieces : AreLiveUnder assumed value.params value.pieces part.pieces
-
--- those of a value that is made so
-abbrev pub IsLiveOf : Assumed → (KeptValue → Type 0) → KeptValue → Type 0
-IsLiveOf assumed Made value = (made : KeptValue) × IsKeptValue made × Made made × IsLivePartOf assumed made value
+pub use Rattle.isl_state.specs.Live.{narrows, IsLiveOf, IsLivePart, IsLivePartOf, IsLiveUnder}
 
 -- Where something is assumed, the elements of the value at the valuations that have the same numbers of these names as some assumed one,
 -- over these names; and else the value itself.
@@ -38,12 +20,7 @@ IsUnderOf Nothing names value under = under ≡ value
 IsUnderOf (Where region) names value under =
     IsOver names (λ valuation element. Has value valuation element × AssumesSome (Where region) names valuation) under
 
--- that, with what a value keeps
-pub record IsLivePart (assumed : Assumed) (value live : KeptValue) : Type 0 where
-  pub part : IsLivePartOf assumed value live
-  pub kept : IsKeptValue live
-
--- the same of what an operation is asked of, with no number above the limit
+-- that, with what a value keeps, and no number above the limit
 pub record IsOperandOf (assumed : Assumed) (names : List Name) (limit : ℕ) (value operand : KeptValue) : Type 0 where
   pub under : IsUnderOf assumed names value operand
   pub kept : IsKeptValue operand

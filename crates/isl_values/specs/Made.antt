@@ -1,9 +1,6 @@
--- public: what values are worked out of expressions, for whom, and what that does to the meter.
-use Rattle.std.specs.Prelude.{◌≡◌, ◌↔◌, ◌⊎◌, ℕ, Bool, true, false, not, ◌||◌, List, All, Some}
+-- public: what values are worked out of expressions, for whom, and which parts use units.
+use Rattle.std.specs.Prelude.{◌≡◌, ◌↔◌, ℕ, Bool, true, false, not, ◌||◌, List, All, Some}
 use Rattle.std.specs.List.{list_any}
-use Rattle.isl_meter.specs.Gauge.{Gauge, IsCutBy}
-use Rattle.isl_meter.specs.declared.Cut.{Cut}
-use Rattle.isl_meter.specs.declared.Cut.TheVariants as cuts
 use Rattle.isl_space.specs.Name.{Name}
 use Rattle.isl_space.specs.Valuation.{Valuation}
 use Rattle.isl_space.specs.Element.{Element}
@@ -11,7 +8,7 @@ use Rattle.isl_union.specs.KeptValue.{KeptValue, Has, HasNoDefinitions, IsKeptVa
 use Rattle.isl_union.specs.declared.fault.OpFault.{OpFault}
 use Rattle.isl_union.specs.declared.fault.OpFault.TheVariants as op_fault
 use Rattle.isl_text.specs.declared.refusal.Refusal.{Refusal}
-use Rattle.isl_text.specs.declared.refusal.Refusal.TheVariants.{Overflow, Budget, NoMemory, NoMinimum, TooWide}
+use Rattle.isl_text.specs.declared.refusal.Refusal.TheVariants.{NoMinimum, TooWide}
 use Rattle.isl_lower.specs.Value.{IsWellFormedLiteral}
 use Rattle.isl_expr.specs.declared.tree.Link.{Link}
 use Rattle.isl_expr.specs.declared.tree.Postfix.{Postfix, Inverse, Apply, Item}
@@ -23,13 +20,11 @@ use Rattle.isl_operators.specs.Operations.{is_operation, is_operation_word}
 use Rattle.isl_operators.specs.Made.{operator_works, word_works}
 use Rattle.isl_operators.specs.declared.fault.WordFault.{WordFault}
 use Rattle.isl_operators.specs.declared.fault.WordFault.TheVariants as word_fault
-pub use Rattle.isl_operators.specs.Made.{IsPaid}
+pub use Rattle.isl_outcome.specs.Why.{refusal_of_cut, IsPaid, IsWhyUnmade, IsWhyUnworked}
 use Rattle.isl_assumed.specs.declared.assumed.Assumed.{Assumed}
 use Rattle.isl_assumed.specs.Assumed.{Assumes}
 use Rattle.isl_values.specs.Live.{IsLiveUnder, narrows}
-use Rattle.isl_values.specs.State.{HasNumbersUpTo}
-use Rattle.isl_values.specs.Ends.{End, Reason, because, refusal_of_reason}
-use Rattle.isl_values.specs.Ends as ends
+use Rattle.isl_state.specs.State.{HasNumbersUpTo}
 
 -- what stands in no operand that a value is worked out of: tests, `%`, `scan`, `sample` and `codegen`
 abbrev pub is_foreign : Part → Bool
@@ -102,14 +97,7 @@ pub record IsValueOf (assumed : Assumed) (Exact : KeptValue → Type 0) (names :
   pub numbers : HasNumbersUpTo limit value
   pub definitions : Plain → HasNoDefinitions value
 
--- ---- units and cuts
-
--- what refuses a statement whose work was cut
-abbrev pub refusal_of_cut : Cut → Refusal
-refusal_of_cut cuts.Overflow = Overflow
-refusal_of_cut cuts.Budget = Budget
-refusal_of_cut cuts.NoMemory = NoMemory
-
+-- ---- faults
 -- what refuses one of which an operation made no value
 abbrev pub refusal_of_fault : OpFault → Refusal
 refusal_of_fault op_fault.TooWide = TooWide
@@ -120,18 +108,3 @@ abbrev pub refusal_of_word_fault : WordFault → Refusal
 refusal_of_word_fault word_fault.TooWide = TooWide
 refusal_of_word_fault word_fault.NoMinimum = NoMinimum
 refusal_of_word_fault (word_fault.Cut cut) = refusal_of_cut cut
-
--- Why no value was made: work was cut, at an operation to which the evaluation goes on, and which nothing ends before its work; want of
--- memory may come anywhere. Where nothing uses units memory ended, and the meter is as it was.
-pub record IsWhyUnmade (works : Bool) (Ends : End → Type 0) (old new : Gauge) (refusal : Refusal) : Type 0 where
-  pub cut : Cut
-  pub is : refusal ≡ refusal_of_cut cut
-  pub by : IsCutBy old new cut
-  pub there : (cut ≡ cuts.NoMemory) ⊎ Ends ends.cut
-  pub free : works ≡ false → (cut ≡ cuts.NoMemory) × (new ≡ old)
-
--- why no value was worked out: none was made; or the evaluation ends for this reason, and units alone were used
-abbrev pub IsWhyUnworked : Bool → (End → Type 0) → Gauge → Gauge → Refusal → Type 0
-IsWhyUnworked works Ends old new refusal =
-    IsWhyUnmade works Ends old new refusal
-    ⊎ ((reason : Reason) × (refusal ≡ refusal_of_reason reason) × Ends (because reason) × IsPaid works old new)

@@ -1,5 +1,5 @@
 -- public: which elements an expression selects, and what is kept of them. (the iscc chapter of the barvinok manual)
-use Rattle.std.specs.Prelude.{◌≡◌, ◌↔◌, List, [], ◌∷◌, Option, Some, None, IfSome, MatchOption, is_some, unsigned_abs}
+use Rattle.std.specs.Prelude.{◌≡◌, ◌↔◌, Bool, true, false, List, [], ◌∷◌, Option, Some, None, IfSome, MatchOption, is_some, unsigned_abs}
 use Rattle.isl_meter.specs.Gauge.{limit_of}
 use Rattle.isl_space.specs.Valuation.{Valuation}
 use Rattle.isl_space.specs.Element.{Element}
@@ -13,7 +13,7 @@ use Rattle.isl_expr.specs.declared.tree.Binary.{Binary}
 use Rattle.isl_expr.specs.declared.tree.Binary.TheVariants as b
 use Rattle.isl_expr.specs.declared.tree.Link.{Link}
 use Rattle.isl_expr.specs.declared.tree.Prefix.{Prefix}
-use Rattle.isl_expr.specs.declared.tree.Prefix.TheVariants as p
+use Rattle.isl_expr.specs.Words.{word_row}
 use Rattle.isl_expr.specs.declared.tree.Postfix.{Postfix, Inverse, Apply, Item}
 use Rattle.isl_expr.specs.declared.tree.Expr.{Expr, Row', Prefix', Any', Last', Post', Row_of-Expr, end_of-Expr, more_of-Expr}
 use Rattle.isl_expr.specs.declared.tree.Expr.{Row_of-Link, end_of-Link, more_of-Link, Row_of-Postfix, end_of-Postfix, more_of-Postfix}
@@ -22,10 +22,10 @@ use Rattle.isl_operators.specs.Operations.{OperatorHas, WordHas, ApplicationHas}
 use Rattle.isl_kinds.specs.Lines.{is_kind}
 use Rattle.isl_kinds.specs.Typed.{kind_of, declared_of, declared_in, joined_names}
 use Rattle.isl_expr.specs.declared.tree.ValueKind.TheVariants.{List as Pair}
-use Rattle.isl_values.specs.declared.list.ListPart.{ListPart}
-use Rattle.isl_values.specs.declared.list.ListPart.TheVariants.{First, Second}
+use Rattle.isl_state.specs.declared.list.ListPart.{ListPart}
+use Rattle.isl_state.specs.declared.list.ListPart.TheVariants.{First, Second}
 use Rattle.isl_values.specs.Live.{IsLiveUnder, IsSampleAt, IsUnderOf}
-use Rattle.isl_values.specs.State.{Kept, StateView, Moment, kept_of, scope_of, value_at, HasNumbersUpTo, Everywhere}
+use Rattle.isl_state.specs.State.{Kept, StateView, Moment, kept_of, scope_of, value_at, HasNumbersUpTo, Everywhere}
 use Rattle.isl_values.specs.Worked.{IsWrittenAt, PartHas, part_taken}
 
 -- what a name stands for has the element in this part
@@ -93,7 +93,8 @@ PostSelects state valuation Operand (postfix ∷ postfixes) element =
 -- a value with exactly the elements that this part of the expression selects, at every assumed valuation; of the values with these elements
 -- it is one that is worked out, or that without its defined columns
 pub record IsSelectedAt (state : StateView) (part : ListPart) (expr : Expr) (value : KeptValue) : Type 0 where
-  pub elements : Everywhere state (λ valuation. (element : Element) → Has value valuation element ↔ SelectsAt state part expr valuation element)
+  pub elements : Everywhere state
+      (λ valuation. (element : Element) → Has value valuation element ↔ SelectsAt state part expr valuation element)
   pub written : IsWrittenAt state part expr value
 
 abbrev pub IsSelected : StateView → Expr → KeptValue → Type 0
@@ -144,27 +145,19 @@ pub record IsTogetherOf (state : StateView) (argument value : KeptValue) : Type 
   pub elements : Everywhere state (λ valuation. (element : Element) → Has value valuation element ↔ Has argument valuation element)
   pub coalesced : IsCoalescedUnder state.assumed argument value
 
--- What is kept of a word with its operand. Of `sample`: one element of a value of the operand, chosen once. Of `coalesce`: the elements of a
--- value of the operand, whose pieces are put together. Of others what is selected.
-abbrev pub IsContentOfWord : StateView → Prefix → (KeptValue → Type 0) → (KeptValue → Type 0) → KeptValue → Type 0
-IsContentOfWord state p.Sample Operand Selected value = (argument : KeptValue) × Operand argument × IsSampleAt state.assumed argument value
-IsContentOfWord state p.Coalesce Operand Selected value = (argument : KeptValue) × Operand argument × IsTogetherOf state argument value
-IsContentOfWord state p.Domain Operand Selected value = Selected value
-IsContentOfWord state p.Range Operand Selected value = Selected value
-IsContentOfWord state p.Deltas Operand Selected value = Selected value
-IsContentOfWord state p.Identity Operand Selected value = Selected value
-IsContentOfWord state p.Wrap Operand Selected value = Selected value
-IsContentOfWord state p.Unwrap Operand Selected value = Selected value
-IsContentOfWord state p.Zip Operand Selected value = Selected value
-IsContentOfWord state p.DomainMap Operand Selected value = Selected value
-IsContentOfWord state p.RangeMap Operand Selected value = Selected value
-IsContentOfWord state p.LexMin Operand Selected value = Selected value
-IsContentOfWord state p.LexMax Operand Selected value = Selected value
-IsContentOfWord state p.Scan Operand Selected value = Selected value
-IsContentOfWord state p.Codegen Operand Selected value = Selected value
+-- What is kept of a word with its operand. Where it chooses (`sample`), one element of a value of the operand, chosen once. Where it puts
+-- pieces together (`coalesce`), the elements of a value of the operand, whose pieces are put together. Else what is selected.
+abbrev pub IsContentBy : StateView → Bool → Bool → (KeptValue → Type 0) → (KeptValue → Type 0) → KeptValue → Type 0
+IsContentBy state true joins Operand Selected value = (argument : KeptValue) × Operand argument × IsSampleAt state.assumed argument value
+IsContentBy state false true Operand Selected value = (argument : KeptValue) × Operand argument × IsTogetherOf state argument value
+IsContentBy state false false Operand Selected value = Selected value
 
--- What a value has that is kept of this part of an expression: what is selected; of `sample` and `coalesce` what these make of a value of their
--- operand; of one `%` of two values the gist of the left one in the context of the right one.
+abbrev pub IsContentOfWord : StateView → Prefix → (KeptValue → Type 0) → (KeptValue → Type 0) → KeptValue → Type 0
+IsContentOfWord state word Operand Selected value =
+    IsContentBy state (word_row word).chooses (word_row word).joins Operand Selected value
+
+-- What a value has that is kept of this part of an expression: what is selected; of `sample` and `coalesce` what these make of a value of
+-- their operand; of one `%` of two values the gist of the left one in the context of the right one.
 abbrev pub IsContentOf : StateView → ListPart → Expr → KeptValue → Type 0
 IsContentOf state part (e.Name name) value = IsSelectedAt state part (e.Name name) value
 IsContentOf state part (e.Literal literal) value = IsSelectedAt state part (e.Literal literal) value
@@ -173,7 +166,8 @@ IsContentOf state part (Row' s first t links) value =
     (λ context. (left : KeptValue) × (right : KeptValue) × IsSelectedIn state first left × IsSelected state context right
     × IsGistOfTwo state left right value)
 IsContentOf state part (Prefix' word s operand) value =
-    IsContentOfWord state word (λ argument. IsSelectedIn state operand argument) (λ v. IsSelectedAt state part (Prefix' word s operand) v) value
+    IsContentOfWord state word (λ argument. IsSelectedIn state operand argument)
+    (λ v. IsSelectedAt state part (Prefix' word s operand) v) value
 IsContentOf state part (Any' r source s sink t schedule) value = IsSelectedAt state part (Any' r source s sink t schedule) value
 IsContentOf state part (Last' r source s sink t schedule) value = IsSelectedAt state part (Last' r source s sink t schedule) value
 IsContentOf state part (Post' s operand t postfixes) value = IsSelectedAt state part (Post' s operand t postfixes) value

@@ -15,11 +15,11 @@ use Rattle.isl_kinds.specs.Parts.{parts_of}
 use Rattle.isl_kinds.specs.Typed.{declared_of, joined_names}
 use Rattle.isl_operators.specs.Made.{IsDependenceOf}
 use Rattle.isl_values.specs.declared.dependence.Accesses.{Accesses}
-use Rattle.isl_values.specs.declared.list.ListPart.{ListPart}
-use Rattle.isl_values.specs.declared.list.ListPart.TheVariants.{First, Second}
-use Rattle.isl_values.specs.declared.list.ListValue.{ListValue}
+use Rattle.isl_state.specs.declared.list.ListPart.{ListPart}
+use Rattle.isl_state.specs.declared.list.ListPart.TheVariants.{First, Second}
+use Rattle.isl_state.specs.declared.list.ListValue.{ListValue}
 use Rattle.isl_values.specs.Live.{IsLiveOf, IsLiveUnder}
-use Rattle.isl_values.specs.State.{AtAssumed, Kept, StateView, scope_of, value_at, HasNumbersUpTo}
+use Rattle.isl_state.specs.State.{AtAssumed, Kept, StateView, scope_of, value_at, HasNumbersUpTo}
 use Rattle.isl_values.specs.Worked.{looks, Dependence, IsAskedOf, IsWorkedAt, IsWrittenAt, PartHas}
 use Rattle.isl_values.specs.Selection.{SelectsAt}
 use Rattle.isl_values.specs.Ends.{End, DependenceEnds, Ends, FirstEnds}
@@ -138,7 +138,8 @@ IsLiveOfThree assumed Depends three limit value =
 
 abbrev pub AreLiveOfThree : Assumed → Accesses → ℕ → ListValue → Type 0
 AreLiveOfThree assumed three limit list =
-    IsLiveOfThree assumed (PartHas First) three limit list.first.value × IsLiveOfThree assumed (PartHas Second) three limit list.second.value
+    IsLiveOfThree assumed (PartHas First) three limit list.first.value
+    × IsLiveOfThree assumed (PartHas Second) three limit list.second.value
 
 abbrev pub ThreeEnd : Accesses → End → Type 0
 ThreeEnd three = DependenceEnds (names_of_accesses three) (Has three.source.value) (Has three.sink.value)

@@ -7,18 +7,18 @@ use Rattle.isl_maps.specs.Inverse.{inverse_of}
 use Rattle.isl_relation.specs.Flow.{AnyHas, LastHas, UnsourcedHas}
 use Rattle.isl_lower.specs.Value.{IsLowered}
 use Rattle.isl_expr.specs.declared.tree.Prefix.{Prefix}
-use Rattle.isl_expr.specs.declared.tree.Prefix.TheVariants as p
 use Rattle.isl_expr.specs.declared.tree.Link.{Link}
 use Rattle.isl_expr.specs.declared.tree.Postfix.{Postfix, Inverse, Apply, Item}
 use Rattle.isl_expr.specs.declared.tree.Expr.{Expr, Row', Prefix', Any', Last', Post', Row_of-Expr, end_of-Expr, more_of-Expr}
 use Rattle.isl_expr.specs.declared.tree.Expr.{Row_of-Link, end_of-Link, more_of-Link, Row_of-Postfix, end_of-Postfix, more_of-Postfix}
 use Rattle.isl_expr.specs.declared.tree.Expr as e
+use Rattle.isl_expr.specs.Words.{word_row}
 use Rattle.isl_operators.specs.Operations.{is_operation_word}
 use Rattle.isl_operators.specs.Made.{IsOperatorOf, IsWordOf, IsApplicationOf, IsDependenceOf}
-use Rattle.isl_values.specs.declared.list.ListPart.{ListPart}
-use Rattle.isl_values.specs.declared.list.ListPart.TheVariants.{First, Second}
+use Rattle.isl_state.specs.declared.list.ListPart.{ListPart}
+use Rattle.isl_state.specs.declared.list.ListPart.TheVariants.{First, Second}
 use Rattle.isl_values.specs.Live.{IsLiveOf, IsUnderOf}
-use Rattle.isl_values.specs.State.{Kept, StateView, kept_of, part_at, value_at}
+use Rattle.isl_state.specs.State.{Kept, StateView, kept_of, part_at, value_at}
 
 -- the part of an operand that what follows it is about: `[i]` can only stand first, since none makes a list
 abbrev pub part_taken : {m : _} → Row_of-Postfix m → ListPart
@@ -51,21 +51,7 @@ IsMadeOfThree state Depends Source Sink Schedule value =
 
 -- the words that look for something at each valuation, and are asked at assumed ones alone
 abbrev pub looks : Prefix → Bool
-looks p.LexMin = true
-looks p.LexMax = true
-looks p.Domain = false
-looks p.Range = false
-looks p.Deltas = false
-looks p.Identity = false
-looks p.Wrap = false
-looks p.Unwrap = false
-looks p.Zip = false
-looks p.DomainMap = false
-looks p.RangeMap = false
-looks p.Coalesce = false
-looks p.Sample = false
-looks p.Scan = false
-looks p.Codegen = false
+looks word = (word_row word).looks
 
 -- what a word is asked of: an operand, at assumed valuations alone where the word looks for something there
 abbrev pub IsAskedOf : StateView → Bool → KeptValue → KeptValue → Type 0

@@ -1,15 +1,18 @@
 //! What an expression selects, over what is bound: values that are worked out.
 #![tactic(auto)]
 
+mod answers;
 mod dependence;
 mod flat;
-mod list;
-mod live;
-mod state;
+mod literal;
+mod operands;
+mod operators;
+mod postfixes;
 mod values;
+mod words;
 
 pub use flat::{flat_list_of, flat_value_of};
-pub use list::{ListPart, ListValue};
-pub use live::{Operands, both_under, right_under, under_own};
-pub use state::{Kept, State};
-pub use values::{joined_past, refusal_of, value_of};
+pub use isl_outcome::refusal_of;
+pub use isl_state::{Kept, ListPart, ListValue, State};
+pub use operands::{Operands, both_under, right_under, under_own};
+pub use values::{joined_past, value_of};

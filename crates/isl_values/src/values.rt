@@ -1,347 +1,31 @@
 //! The values of expressions.
 
-ghost use Rattle.std.specs.Prelude.{◌≡◌, ◌&&◌, All, true, false, IfErr, IfOk, MatchResult, Ok, unsigned_abs};
+ghost use Rattle.std.specs.Prelude.{◌≡◌, All, true, false, IfErr, IfOk, MatchResult, unsigned_abs};
 ghost use Rattle.std.specs.List.{list_any};
 ghost use Rattle.isl_meter.specs.Gauge.{IsCharged, limit_of};
 ghost use Rattle.isl_union.specs.KeptValue.{Has, HasNoDefinitions, IsKeptValue};
-ghost use Rattle.isl_lower.specs.Value.{IsWellFormedLiteral, IsLowered};
-ghost use Rattle.isl_tree.specs.Literal.{LiteralHas};
-ghost use Rattle.isl_tree.specs.Known.{literal_is_known};
-ghost use Rattle.isl_tree.specs.Plain.{is_plain};
-ghost use Rattle.isl_maps.specs.Inverse.{inverse_element, inverse_of};
-ghost use Rattle.isl_operators.specs.Operations.{OperatorHas, WordHas, ApplicationHas};
-ghost use Rattle.isl_operators.specs.Formed.{OperatorForms, ApplicationForms};
-ghost use Rattle.isl_operators.specs.Made.{IsOperatorOf, IsWordOf, IsApplicationOf, operator_works, word_works};
-ghost use Rattle.isl_kinds.specs.Parts.{operator as operator_part, prefix as prefix_part, parts_of, parts_of_links};
-ghost use Rattle.isl_kinds.specs.Parts.{parts_of_postfix, parts_of_postfixes};
-ghost use Rattle.isl_kinds.specs.Typed.{declared_of, declared_of_post, declared_of_row, declared_past, joined_names};
-ghost use Rattle.isl_values.specs.Live.{narrows, IsLiveOf, IsLiveUnder};
-ghost use Rattle.isl_values.specs.State.{scope_of, AtAssumed, Fits, HasNumbersUpTo};
+ghost use Rattle.isl_kinds.specs.Parts.{parts_of, parts_of_links, parts_of_postfix, parts_of_postfixes};
+ghost use Rattle.isl_kinds.specs.Typed.{declared_of, declared_of_post, declared_of_row, declared_past};
+ghost use Rattle.isl_values.specs.Live.{IsLiveUnder};
+ghost use Rattle.isl_state.specs.State.{scope_of, Fits, HasNumbersUpTo};
 ghost use Rattle.isl_values.specs.Selection.{Selects, PostSelects, RowSelects, PostfixHas};
-ghost use Rattle.isl_values.specs.Worked.{looks, part_of_list, IsPostfixOf, IsWordedOf, IsWorked, IsWorkedPost, IsWorkedRow};
-ghost use Rattle.isl_values.specs.Ends.{CutAlone, CutUnder, Ends, EndsPost, EndsPostfix, EndsRow, GoesOn, PairEnds, WordEnds};
-ghost use Rattle.isl_values.specs.Made.{is_foreign, uses_units, IsSoundExpr, IsSoundLink, IsSoundPostfix, IsMadeOf, IsValueOf};
-ghost use Rattle.isl_values.specs.Made.{refusal_of_cut, refusal_of_fault, refusal_of_word_fault, IsPaid, IsWhyUnmade, IsWhyUnworked};
-ghost use Rattle.isl_values.specs.Three.{AreBothOf, AreKept, IsAsked, AreMade, IsValueAt, IsWhole, NothingWorks, OperandsEnd};
+ghost use Rattle.isl_values.specs.Worked.{part_of_list, IsPostfixOf, IsWorked, IsWorkedPost, IsWorkedRow};
+ghost use Rattle.isl_values.specs.Ends.{Ends, EndsPost, EndsPostfix, EndsRow, GoesOn};
+ghost use Rattle.isl_values.specs.Made.{uses_units, IsSoundExpr, IsSoundLink, IsSoundPostfix, IsValueOf, IsPaid, IsWhyUnworked};
+ghost use Rattle.isl_values.specs.Three.{AreBothOf, AreKept, AreMade, IsValueAt, IsWhole, NothingWorks, OperandsEnd};
 
 use crate::dependence::{Accesses, latest, latest_part, preceding};
-use crate::live::{live_part, under_own};
-use crate::{Kept, ListPart, ListValue, State};
-use isl_expr::tree::{Binary, Expr, Link, Postfix, Prefix};
-use isl_lower::lower;
-use isl_maps::inverse;
-use isl_meter::{Cut, Meter};
-use isl_operators::{WordFault, applied, combined, transformed};
+use crate::literal::lowered;
+use crate::operators::joined;
+use crate::postfixes::{applied_to, inverted};
+use crate::words::worded;
+use isl_expr::tree::{Expr, Link, Postfix};
+use isl_meter::Meter;
+use isl_state::{Kept, ListPart, ListValue, State};
 use isl_text::refusal::Refusal;
-use isl_tree::tree::Literal;
-use isl_union::{OpFault, Value, extended};
+use isl_union::Value;
 use std::alloc::Global;
 use std::rc::Rc;
-
-/// Why a statement is refused whose work was cut so.
-pub fn refusal_of(cut: Cut) -> Refusal
-    ensures { result ≡ refusal_of_cut cut }
-{
-    match cut {
-        Cut::Overflow => Refusal::Overflow,
-        Cut::Budget => Refusal::Budget,
-        Cut::NoMemory => Refusal::NoMemory,
-    }
-}
-
-// What a literal writes, as a value.
-fn written(alloc: Global, literal: &Literal, meter: &mut Meter) -> Result<Rc<Value>, Refusal>
-    requires known { literal_is_known literal.now ≡ true }
-    requires well_formed { IsWellFormedLiteral literal.now }
-    ensures { MatchResult result
-        (λ value. IsMadeOf (IsLowered literal.now) literal.now.params (LiteralHas literal.now)
-        (unsigned_abs (limit_of meter.old)) (is_plain literal.now ≡ true) value.value × IsPaid true meter.old meter.new)
-        (IsWhyUnmade true CutAlone meter.old meter.new) }
-{
-    match lower(alloc, literal, meter) {
-        Ok(value) => Ok(Rc::new(alloc, value)?),
-        Err(cut) => Err(refusal_of(cut)),
-    }
-}
-
-// What is live of that.
-fn lowered(
-    alloc: Global,
-    literal: &Literal,
-    state: &State,
-    meter: &mut Meter,
-) -> Result<Rc<Value>, Refusal>
-    requires known { literal_is_known literal.now ≡ true }
-    requires well_formed { IsWellFormedLiteral literal.now }
-    requires fits { Fits (limit_of meter.old) state.now }
-    ensures { MatchResult result
-        (λ value. IsValueOf state.now.assumed (IsLiveOf state.now.assumed (IsLowered literal.now)) literal.now.params
-        (LiteralHas literal.now) (unsigned_abs (limit_of meter.old)) (is_plain literal.now ≡ true) value.value
-        × IsPaid true meter.old meter.new)
-        (IsWhyUnmade true CutAlone meter.old meter.new) }
-{
-    match written(alloc, literal, meter) {
-        Ok(value) => live_part(alloc, value, state.assumed(), meter),
-        Err(refusal) => Err(refusal),
-    }
-}
-
-// What an operation made, to be shared, or what refuses it.
-pub fn answered(alloc: Global, outcome: Result<Value, OpFault>) -> Result<Rc<Value>, Refusal>
-    ensures { MatchResult result (λ value. outcome ≡ Ok value.value)
-        (λ refusal. MatchResult outcome (λ _. refusal ≡ Refusal.NoMemory) (λ fault. refusal ≡ refusal_of_fault fault)) }
-{
-    match outcome {
-        Ok(value) => Ok(Rc::new(alloc, value)?),
-        Err(OpFault::Cut(cut)) => Err(refusal_of(cut)),
-        Err(OpFault::TooWide) => Err(Refusal::TooWide),
-    }
-}
-
-// What an operator makes of two values. A sum takes the pieces of the left one where nothing else has them.
-fn operated(
-    alloc: Global,
-    operator: Binary,
-    left: Rc<Value>,
-    right: &Value,
-    meter: &mut Meter,
-) -> Result<Rc<Value>, Refusal>
-    requires supported { is_foreign (operator_part operator) ≡ false }
-    requires left { HasNumbersUpTo (unsigned_abs (limit_of meter.old)) left.value }
-    requires right { HasNumbersUpTo (unsigned_abs (limit_of meter.old)) right.now }
-    ensures made { MatchResult result
-        (λ value. IsMadeOf (λ made. IsOperatorOf operator left.value right.now made) (joined_names left.value.params right.now.params)
-        (λ valuation element. OperatorHas operator (Has left.value valuation) (Has right.now valuation) element)
-        (unsigned_abs (limit_of meter.old)) (HasNoDefinitions left.value × HasNoDefinitions right.now) value.value
-        × IsPaid (operator_works operator) meter.old meter.new)
-        (IsWhyUnworked (operator_works operator)
-        (PairEnds (OperatorForms operator) left.value.params right.now.params (Has left.value) (Has right.now)) meter.old meter.new) }
-    ensures goes_on { IfOk result
-        (λ _. GoesOn (PairEnds (OperatorForms operator) left.value.params right.now.params (Has left.value) (Has right.now))) }
-{
-    let _names = right.params();
-    match operator {
-        Binary::Union => answered(alloc, extended(alloc, left, right, meter)),
-        _ => answered(alloc, combined(alloc, operator, &left, right, meter)),
-    }
-}
-
-// What is live of that; where something is assumed each piece of the two is live.
-fn joined(
-    alloc: Global,
-    operator: Binary,
-    left: Rc<Value>,
-    right: &Value,
-    state: &State,
-    meter: &mut Meter,
-) -> Result<Rc<Value>, Refusal>
-    requires supported { is_foreign (operator_part operator) ≡ false }
-    requires left { HasNumbersUpTo (unsigned_abs (limit_of meter.old)) left.value }
-    requires right { HasNumbersUpTo (unsigned_abs (limit_of meter.old)) right.now }
-    requires left_live { IsLiveUnder state.now.assumed left.value }
-    requires right_live { IsLiveUnder state.now.assumed right.now }
-    requires fits { Fits (limit_of meter.old) state.now }
-    ensures made { MatchResult result
-        (λ value. IsValueOf state.now.assumed (IsLiveOf state.now.assumed (IsOperatorOf operator left.value right.now))
-        (joined_names left.value.params right.now.params)
-        (λ valuation element. OperatorHas operator (Has left.value valuation) (Has right.now valuation) element)
-        (unsigned_abs (limit_of meter.old)) (HasNoDefinitions left.value × HasNoDefinitions right.now) value.value
-        × IsPaid (uses_units state.now.assumed (operator_part operator)) meter.old meter.new)
-        (IsWhyUnworked (uses_units state.now.assumed (operator_part operator))
-        (PairEnds (OperatorForms operator) left.value.params right.now.params (AtAssumed state.now (Has left.value))
-        (AtAssumed state.now (Has right.now))) meter.old meter.new) }
-    ensures goes_on { IfOk result
-        (λ _. GoesOn (PairEnds (OperatorForms operator) left.value.params right.now.params (AtAssumed state.now (Has left.value))
-        (AtAssumed state.now (Has right.now)))) }
-{
-    match operated(alloc, operator, left, right, meter) {
-        Ok(made) => live_part(alloc, made, state.assumed(), meter),
-        Err(refusal) => Err(refusal),
-    }
-}
-
-// What a word makes of a value, to be shared, or what refuses it.
-fn word_answered(alloc: Global, outcome: Result<Value, WordFault>) -> Result<Rc<Value>, Refusal>
-    ensures { MatchResult result (λ value. outcome ≡ Ok value.value)
-        (λ refusal. MatchResult outcome (λ _. refusal ≡ Refusal.NoMemory) (λ fault. refusal ≡ refusal_of_word_fault fault)) }
-{
-    match outcome {
-        Ok(value) => Ok(Rc::new(alloc, value)?),
-        Err(WordFault::Cut(cut)) => Err(refusal_of(cut)),
-        Err(WordFault::TooWide) => Err(Refusal::TooWide),
-        Err(WordFault::NoMinimum) => Err(Refusal::NoMinimum),
-    }
-}
-
-// What a word makes of a value.
-fn changed(
-    alloc: Global,
-    word: Prefix,
-    operand: &Value,
-    meter: &mut Meter,
-) -> Result<Rc<Value>, Refusal>
-    requires supported { is_foreign (prefix_part word) ≡ false }
-    requires numbers { HasNumbersUpTo (unsigned_abs (limit_of meter.old)) operand.now }
-    ensures made { MatchResult result
-        (λ value. IsMadeOf (λ made. IsWordOf word operand.now made) operand.now.params
-        (WordHas word operand.now.params (Has operand.now)) (unsigned_abs (limit_of meter.old)) (HasNoDefinitions operand.now) value.value
-        × IsPaid (word_works word) meter.old meter.new)
-        (IsWhyUnworked (word_works word) (WordEnds word (Has operand.now)) meter.old meter.new) }
-    ensures goes_on { IfOk result (λ _. GoesOn (WordEnds word (Has operand.now))) }
-{
-    word_answered(alloc, transformed(alloc, word, operand, meter))
-}
-
-// Whether the word looks for something at each valuation.
-fn looks(word: Prefix) -> bool
-    ensures { result ≡ looks word }
-{
-    matches!(word, Prefix::LexMin | Prefix::LexMax)
-}
-
-// What the word is asked of.
-fn asked(
-    alloc: Global,
-    word: Prefix,
-    operand: Rc<Value>,
-    state: &State,
-    meter: &mut Meter,
-) -> Result<Rc<Value>, Refusal>
-    requires numbers { HasNumbersUpTo (unsigned_abs (limit_of meter.old)) operand.value }
-    requires kept { IsKeptValue operand.value }
-    requires fits { Fits (limit_of meter.old) state.now }
-    ensures { MatchResult result
-        (λ value. IsAsked state.now word (unsigned_abs (limit_of meter.old)) operand.value value.value
-        × IsPaid (narrows state.now.assumed) meter.old meter.new)
-        (IsWhyUnmade (looks word && narrows state.now.assumed) (CutUnder state.now) meter.old meter.new) }
-{
-    if looks(word) {
-        under_own(alloc, operand, state, meter)
-    } else {
-        Ok(operand)
-    }
-}
-
-// What is live of what a word makes of a value, each piece of which is.
-fn worded(
-    alloc: Global,
-    word: Prefix,
-    operand: Rc<Value>,
-    state: &State,
-    meter: &mut Meter,
-) -> Result<Rc<Value>, Refusal>
-    requires supported { is_foreign (prefix_part word) ≡ false }
-    requires numbers { HasNumbersUpTo (unsigned_abs (limit_of meter.old)) operand.value }
-    requires kept { IsKeptValue operand.value }
-    requires live { IsLiveUnder state.now.assumed operand.value }
-    requires fits { Fits (limit_of meter.old) state.now }
-    ensures made { MatchResult result
-        (λ value. IsValueOf state.now.assumed (IsWordedOf state.now word operand.value) operand.value.params
-        (WordHas word operand.value.params (Has operand.value)) (unsigned_abs (limit_of meter.old)) (HasNoDefinitions operand.value)
-        value.value
-        × IsPaid (uses_units state.now.assumed (prefix_part word)) meter.old meter.new)
-        (IsWhyUnworked (uses_units state.now.assumed (prefix_part word)) (WordEnds word (AtAssumed state.now (Has operand.value)))
-        meter.old meter.new) }
-    ensures goes_on { IfOk result (λ _. GoesOn (WordEnds word (AtAssumed state.now (Has operand.value)))) }
-{
-    let asked = match asked(alloc, word, operand, state, meter) {
-        Ok(asked) => asked,
-        Err(refusal) => return Err(refusal),
-    };
-    match changed(alloc, word, &asked, meter) {
-        Ok(made) => live_part(alloc, made, state.assumed(), meter),
-        Err(refusal) => Err(refusal),
-    }
-}
-
-// A map applied to a value.
-fn images_of(
-    alloc: Global,
-    map: &Value,
-    argument: &Value,
-    meter: &mut Meter,
-) -> Result<Rc<Value>, Refusal>
-    requires map { HasNumbersUpTo (unsigned_abs (limit_of meter.old)) map.now }
-    requires argument { HasNumbersUpTo (unsigned_abs (limit_of meter.old)) argument.now }
-    ensures made { MatchResult result
-        (λ value. IsMadeOf (λ made. IsApplicationOf map.now argument.now made) (joined_names map.now.params argument.now.params)
-        (λ valuation element. ApplicationHas (Has map.now valuation) (Has argument.now valuation) element)
-        (unsigned_abs (limit_of meter.old)) (HasNoDefinitions map.now × HasNoDefinitions argument.now) value.value
-        × IsPaid true meter.old meter.new)
-        (IsWhyUnworked true (PairEnds ApplicationForms map.now.params argument.now.params (Has map.now) (Has argument.now))
-        meter.old meter.new) }
-    ensures goes_on { IfOk result
-        (λ _. GoesOn (PairEnds ApplicationForms map.now.params argument.now.params (Has map.now) (Has argument.now))) }
-{
-    let _names = argument.params();
-    answered(alloc, applied(alloc, map, argument, meter))
-}
-
-// What is live of that; each piece of the two is.
-fn applied_to(
-    alloc: Global,
-    map: &Value,
-    argument: &Value,
-    state: &State,
-    meter: &mut Meter,
-) -> Result<Rc<Value>, Refusal>
-    requires map { HasNumbersUpTo (unsigned_abs (limit_of meter.old)) map.now }
-    requires argument { HasNumbersUpTo (unsigned_abs (limit_of meter.old)) argument.now }
-    requires map_live { IsLiveUnder state.now.assumed map.now }
-    requires argument_live { IsLiveUnder state.now.assumed argument.now }
-    requires fits { Fits (limit_of meter.old) state.now }
-    ensures made { MatchResult result
-        (λ value. IsValueOf state.now.assumed (IsLiveOf state.now.assumed (IsApplicationOf map.now argument.now))
-        (joined_names map.now.params argument.now.params)
-        (λ valuation element. ApplicationHas (Has map.now valuation) (Has argument.now valuation) element)
-        (unsigned_abs (limit_of meter.old)) (HasNoDefinitions map.now × HasNoDefinitions argument.now) value.value
-        × IsPaid true meter.old meter.new)
-        (IsWhyUnworked true (PairEnds ApplicationForms map.now.params argument.now.params (AtAssumed state.now (Has map.now))
-        (AtAssumed state.now (Has argument.now))) meter.old meter.new) }
-    ensures goes_on { IfOk result
-        (λ _. GoesOn (PairEnds ApplicationForms map.now.params argument.now.params (AtAssumed state.now (Has map.now))
-        (AtAssumed state.now (Has argument.now)))) }
-{
-    match images_of(alloc, map, argument, meter) {
-        Ok(made) => live_part(alloc, made, state.assumed(), meter),
-        Err(refusal) => Err(refusal),
-    }
-}
-
-// The inverse of a value of maps.
-fn turned(alloc: Global, operand: &Value, meter: &mut Meter) -> Result<Rc<Value>, Refusal>
-    requires numbers { HasNumbersUpTo (unsigned_abs (limit_of meter.old)) operand.now }
-    ensures made { IfOk result
-        (λ value. IsMadeOf (λ made. made ≡ inverse_of operand.now) operand.now.params
-        (λ valuation element. Has operand.now valuation (inverse_element element)) (unsigned_abs (limit_of meter.old))
-        (HasNoDefinitions operand.now) value.value) }
-    ensures faults { IfErr result (λ refusal. refusal ≡ Refusal.NoMemory) }
-    ensures meter { meter.new ≡ meter.old }
-{
-    answered(alloc, inverse(alloc, operand, meter))
-}
-
-// What is live of that.
-fn inverted(
-    alloc: Global,
-    operand: &Value,
-    state: &State,
-    meter: &mut Meter,
-) -> Result<Rc<Value>, Refusal>
-    requires numbers { HasNumbersUpTo (unsigned_abs (limit_of meter.old)) operand.now }
-    requires fits { Fits (limit_of meter.old) state.now }
-    ensures { MatchResult result
-        (λ value. IsValueOf state.now.assumed (IsLiveOf state.now.assumed (λ made. made ≡ inverse_of operand.now)) operand.now.params
-        (λ valuation element. Has operand.now valuation (inverse_element element)) (unsigned_abs (limit_of meter.old))
-        (HasNoDefinitions operand.now) value.value
-        × IsPaid (narrows state.now.assumed) meter.old meter.new)
-        (IsWhyUnmade (narrows state.now.assumed) (CutUnder state.now) meter.old meter.new) }
-{
-    match turned(alloc, operand, meter) {
-        Ok(made) => live_part(alloc, made, state.assumed(), meter),
-        Err(refusal) => Err(refusal),
-    }
-}
 
 // What follows an operand, made of its value.
 #[cycle(value)]
@@ -580,8 +264,8 @@ pub fn value_of(
     requires sound { IsSoundExpr (scope_of state.now) expr.now }
     requires fits { Fits (limit_of meter.old) state.now }
     ensures made { MatchResult result
-        (λ value. IsValueOf state.now.assumed (IsWorked state.now expr.now) (declared_of (scope_of state.now) expr.now) (Selects state.now expr.now)
-        (unsigned_abs (limit_of meter.old)) (NothingWorks state.now expr.now) value.value
+        (λ value. IsValueOf state.now.assumed (IsWorked state.now expr.now) (declared_of (scope_of state.now) expr.now)
+        (Selects state.now expr.now) (unsigned_abs (limit_of meter.old)) (NothingWorks state.now expr.now) value.value
         × IsPaid (list_any (uses_units state.now.assumed) (parts_of expr.now)) meter.old meter.new)
         (IsWhyUnworked (list_any (uses_units state.now.assumed) (parts_of expr.now)) (Ends state.now expr.now) meter.old meter.new) }
     ensures goes_on { IfOk result (λ _. GoesOn (Ends state.now expr.now)) }

@@ -223,7 +223,8 @@ returns-in-Universal c =
       over names Elements r made.params made.elements,
       made.elements,
       narrow,
-      formed_units names Wide g h (PairsTooWide FormsUniversal left right) _ _ (charge _ g h) wider (pairs_narrow FormsUniversal left right) r
+      formed_units names Wide g h (PairsTooWide FormsUniversal left right) _ _ (charge _ g h) wider
+          (pairs_narrow FormsUniversal left right) r
           made.units,
     ) in
     record {

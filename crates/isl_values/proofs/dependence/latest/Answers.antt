@@ -2,7 +2,7 @@ use Rattle.std.proofs.Common.{true, inl}
 use Rattle.std.specs.Prelude.{Err}
 use Rattle.isl_meter.proofs.CutLemmas.{IsCharged_trans}
 use Rattle.isl_union.specs.KeptValue.{KeptValue}
-use Rattle.isl_values.proofs.LiveLaws.{dependence_cut_there, dependence_ends_live, dependence_goes_there, live_answer, live_value}
+use Rattle.isl_values.proofs.LiveEndsLaws.{dependence_cut_there, dependence_ends_live, dependence_goes_there, live_answer, live_value}
 use Rattle.isl_values.proofs.ValueLaws.{numbers_later, paid_works, unworked_in}
 use Rattle.isl_values.proofs.dependence.latest.Goals as goal
 

@@ -1,6 +1,7 @@
 use Rattle.std.proofs.Common.{true, subst, sym}
 use Rattle.isl_assumed.specs.Assumed.{IsSound}
-use Rattle.isl_values.proofs.LiveLaws.{dependence_cut_there, dependence_ends_live, dependence_goes_there, live_answer, unworked_of}
+use Rattle.isl_values.proofs.LiveEndsLaws.{dependence_cut_there, dependence_ends_live, dependence_goes_there, live_answer}
+use Rattle.isl_outcome.proofs.PaidLaws.{unworked_of}
 use Rattle.isl_values.proofs.ValueLaws.{numbers_later, ok_of, same_limit, unworked_in}
 use Rattle.isl_values.proofs.dependence.preceding.Goals as goal
 

@@ -2,7 +2,7 @@ use Rattle.std.proofs.Common.{rules, subst, sym}
 use Rattle.std.specs.Prelude.{unsigned_abs}
 use Rattle.isl_meter.specs.Gauge.{limit_of}
 use Rattle.isl_values.specs.Three.{IsMadeFlat}
-use Rattle.isl_values.proofs.FlatLaws.{unmade_later}
+use Rattle.isl_outcome.proofs.PaidLaws.{unmade_later}
 use Rattle.isl_values.proofs.flat.flat_copy.Goals as goal
 
 pub returns-in_err-new-in-Ok : goal.returns-in_err-new-in-Ok

@@ -1,4 +1,4 @@
-use Rattle.isl_values.specs.declared.list.ListPart.TheVariants.{First, Second}
+use Rattle.isl_state.specs.declared.list.ListPart.TheVariants.{First, Second}
 use Rattle.isl_values.proofs.FlatLaws.{flat_failed, flat_made}
 use Rattle.isl_values.proofs.ValueLaws.{fits_later, numbers_later}
 use Rattle.isl_values.proofs.flat.flat_list_of.Goals as goal

@@ -1,4 +1,4 @@
-use Rattle.isl_values.specs.declared.list.ListPart.TheVariants.{First}
+use Rattle.isl_state.specs.declared.list.ListPart.TheVariants.{First}
 use Rattle.isl_values.proofs.FlatLaws.{flat_answer}
 use Rattle.isl_values.proofs.ValueLaws.{fits_later, numbers_later, ok_of}
 use Rattle.isl_values.proofs.flat.flat_value_of.Goals as goal

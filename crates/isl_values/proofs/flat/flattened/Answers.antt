@@ -3,7 +3,7 @@ use Rattle.std.specs.Prelude.{unsigned_abs}
 use Rattle.isl_meter.specs.Gauge.{limit_of}
 use Rattle.isl_meter.proofs.CutLemmas.{IsCharged_refl}
 use Rattle.isl_union.specs.KeptValue.{HasNoDefinitions, IsKeptValue}
-use Rattle.isl_values.specs.State.{HasNumbersUpTo}
+use Rattle.isl_state.specs.State.{HasNumbersUpTo}
 use Rattle.isl_values.proofs.FlatLaws.{flat_live_answer, live_flat_itself}
 use Rattle.isl_values.proofs.ValueLaws.{numbers_later}
 use Rattle.isl_values.proofs.flat.flattened.Goals as goal

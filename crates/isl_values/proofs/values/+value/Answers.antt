@@ -6,17 +6,20 @@ use Rattle.isl_operators.specs.Flow.{AnyHas}
 use Rattle.isl_union.specs.KeptValue.{KeptValue, Has}
 use Rattle.isl_kinds.specs.Typed.{has_unknown}
 use Rattle.isl_values.specs.declared.dependence.Accesses.{Accesses}
-use Rattle.isl_values.specs.declared.list.ListPart.{ListPart}
+use Rattle.isl_state.specs.declared.list.ListPart.{ListPart}
 use Rattle.isl_values.specs.Ends.{EndsPostfix, GoesOn}
-use Rattle.isl_values.specs.State.{scope_of, HasNumbersUpTo}
+use Rattle.isl_state.specs.State.{scope_of, HasNumbersUpTo}
 use Rattle.isl_values.specs.Worked.{PartHas}
-use Rattle.isl_values.proofs.KeptLaws.{name_makes, name_goes_on, literal_makes, literal_goes_on, literal_paid, literal_unmade, never_unbound}
+use Rattle.isl_values.proofs.KeptLaws.{name_makes, name_goes_on, literal_makes, literal_goes_on, literal_paid, literal_unmade}
+use Rattle.isl_values.proofs.KeptLaws.{never_unbound}
 use Rattle.isl_values.proofs.KeptLaws.{only_literal}
 use Rattle.isl_values.proofs.DepthLaws.{first_smaller, links_smaller, link_smaller, argument_smaller, operand_smaller, postfixes_smaller}
 use Rattle.isl_values.proofs.DepthLaws.{postfix_smaller, applied_smaller, any_smaller, last_smaller, sink_smaller, schedule_smaller}
 use Rattle.isl_values.proofs.SameLaws.{same_any, same_part}
-use Rattle.isl_values.proofs.ThreeLaws.{dependence_failed, dependence_goes, dependence_made, is_any, is_last, operands_failed, three_live, three_within}
-use Rattle.isl_values.proofs.ThreeLaws.{same_Any, same_Last, three_sound, three_made, three_goes, source_failed, sink_failed, schedule_failed}
+use Rattle.isl_values.proofs.ThreeLaws.{dependence_failed, dependence_goes, dependence_made, is_any, is_last, operands_failed, three_live}
+use Rattle.isl_values.proofs.ThreeLaws.{three_within}
+use Rattle.isl_values.proofs.ThreeLaws.{same_Any, same_Last, three_sound, three_made, three_goes, source_failed, sink_failed}
+use Rattle.isl_values.proofs.ThreeLaws.{schedule_failed}
 use Rattle.isl_values.proofs.ValueLaws.{fits_later, numbers_of, numbers_later, paid_same, match_map, ok_of, ok_map, IsMade, IsMadeAt}
 use Rattle.isl_values.proofs.LinkLaws.{link_sound, link_failed, join_failed, row_step}
 use Rattle.isl_values.proofs.PostfixLaws.{IsFollowed, IsWhyNotFollowed, postfix_sound, postfix_failed, post_step, item_followed}
@@ -26,7 +29,7 @@ use Rattle.isl_values.proofs.OperandLaws.{IsWhyNotMade, same_Row, first_sound, l
 use Rattle.isl_values.proofs.OperandLaws.{links_failed, row_goes_on}
 use Rattle.isl_values.proofs.OperandLaws.{same_Post, operand_sound, postfixes_sound, operand_failed, post_made}
 use Rattle.isl_values.proofs.OperandLaws.{postfixes_failed, post_goes_on}
-use Rattle.isl_values.proofs.OperandLaws.{same_Prefix, argument_sound, word_supported, prefixed_failed, word_made, word_failed, word_goes_on}
+use Rattle.isl_values.proofs.WordLaws.{same_Prefix, argument_sound, word_supported, prefixed_failed, word_made, word_failed, word_goes_on}
 use Rattle.isl_values.proofs.values.+value.Goals as goal
 
 -- ---- the operands behind the first
@@ -263,7 +266,10 @@ part_of-past_postfixes-requires t c =
       search (rules, postfixes_smaller _ _ _ is),
       (
         postfixes_sound c.args.state.now _ _ _ is c.requires.sound,
-        (fits_later _ _ _ one.1.charged c.requires.fits, (numbers_later _ _ c.in-Ok-part_of.left.value one.1.charged one.0.numbers, one.0.live)),
+        (
+          fits_later _ _ _ one.1.charged c.requires.fits,
+          (numbers_later _ _ c.in-Ok-part_of.left.value one.1.charged one.0.numbers, one.0.live),
+        ),
       ),
     )
 

@@ -3,7 +3,7 @@ use Rattle.std.specs.Prelude.{unsigned_abs}
 use Rattle.isl_meter.specs.Gauge.{limit_of}
 use Rattle.isl_kinds.specs.Parts.{parts_of}
 use Rattle.isl_values.specs.Ends.{Ends}
-use Rattle.isl_values.proofs.ThreeLaws.{doubled_both}
+use Rattle.isl_values.proofs.WholeLaws.{doubled_both}
 use Rattle.isl_values.proofs.ValueLaws.{both_map, ok_of, unmade_memory, work}
 use Rattle.isl_values.proofs.values.doubled.Goals as goal
 

@@ -4,14 +4,16 @@ use Rattle.std.specs.Option.{option_copied}
 use Rattle.isl_meter.specs.Gauge.{limit_of}
 use Rattle.isl_kinds.specs.Parts.{parts_of}
 use Rattle.isl_kinds.specs.Typed.{has_unknown}
-use Rattle.isl_values.specs.declared.list.ListPart.TheVariants.{First}
+use Rattle.isl_state.specs.declared.list.ListPart.TheVariants.{First}
 use Rattle.isl_values.specs.Ends.{Ends}
-use Rattle.isl_values.specs.State.{scope_of}
+use Rattle.isl_state.specs.State.{scope_of}
 use Rattle.isl_values.specs.Worked.{PartHas}
 use Rattle.isl_values.proofs.KeptLaws.{name_both, never_unbound}
 use Rattle.isl_values.proofs.SameLaws.{same_part}
-use Rattle.isl_values.proofs.ThreeLaws.{dependence_failed, dependence_goes, is_last, list_made, operands_failed, three_live, three_within, same_Last}
-use Rattle.isl_values.proofs.ThreeLaws.{three_sound, literal_whole, row_whole, post_whole, word_whole, any_whole}
+use Rattle.isl_values.proofs.ThreeLaws.{dependence_failed, dependence_goes, is_last, list_made, operands_failed, three_live, three_within}
+use Rattle.isl_values.proofs.ThreeLaws.{same_Last}
+use Rattle.isl_values.proofs.ThreeLaws.{three_sound}
+use Rattle.isl_values.proofs.WholeLaws.{literal_whole, row_whole, post_whole, word_whole, any_whole}
 use Rattle.isl_values.proofs.ValueLaws.{both_map, fits_later, match_map, ok_map, paid_same, unmade_memory, work}
 use Rattle.isl_values.proofs.values.list_of.Goals as goal
 
@@ -55,7 +57,8 @@ returns-in-Ok-clause-made c =
     let one = c.in-Ok.ensures in
     match_map c.latest.result _ _ _ _
     (λ list made. list_made c.args.state.now _ _ _ _ is g _ k _ one.made.0 one.made.1 list made)
-    (λ refusal why. dependence_failed _ _ _ _ _ _ (PartHas First) (same_part First) of g _ k _ one.made.0 one.made.1 refusal one.goes_on why)
+    (λ refusal why. dependence_failed _ _ _ _ _ _ (PartHas First)
+    (same_part First) of g _ k _ one.made.0 one.made.1 refusal one.goes_on why)
     c.latest.ensures.made
 
 pub returns-in-Ok-clause-goes_on : goal.returns-in-Ok-clause-goes_on

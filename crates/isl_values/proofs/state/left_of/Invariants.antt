@@ -1,5 +1,0 @@
-use Rattle.isl_values.proofs.NarrowLaws.{IsLeftSoFar}
-use Rattle.isl_values.proofs.state.left_of.Given as goal
-
-abbrev pub invariant-loop-name : goal.invariant-loop-name
-invariant-loop-name l = IsLeftSoFar l.assumed l.fn.meter l.meter l.bound.entries l.name-iterator l.left.entries
