@@ -1,6 +1,6 @@
 -- What stands still at the top of the machine's counts passes the bound on memory exactly where it would without a top.
 use Rattle.std.proofs.Common.{◌≡◌, ◌∙◌, ◌↔◌, inl, inr, Bool, true, false, ℕ, zero, suc, ◌+◌, ◌-◌, ◌*◌, ◌/◌, ◌<◌, ◌≤◌, min, arith}
-use Rattle.std.proofs.Common.{ap, subst, sym, refl, List, length, map, get_or, if◌then◌else◌, nat_le}
+use Rattle.std.proofs.Common.{ap, subst, sym, refl, List, length, get_or, if◌then◌else◌, nat_le}
 use Rattle.std.proofs.lemmas.List.{get_or-map}
 use Rattle.isl_piece.specs.declared.system.System.{System}
 use Rattle.std.proofs.lemmas.Bool.{cases_lt}

@@ -1,4 +1,4 @@
-use Rattle.std.proofs.Common.{◌∙◌, inl, inr, true, false, true≢false, refl, sym, subst, ◌<◌, ℕ, arith, length}
+use Rattle.std.proofs.Common.{◌∙◌, inl, inr, true≢false, refl, sym, subst, ◌<◌, ℕ, arith, length}
 use Rattle.std.proofs.lemmas.Grind.{common_steps}
 use Rattle.isl_piece.specs.declared.system.System.{System}
 use Rattle.isl_difference.specs.Weight.{AreTooHeavy}
