@@ -23,7 +23,7 @@ use Rattle.isl_scan.specs.Listing.{IsElementBefore, IsSpaceBefore}
 use Rattle.isl_scan.proofs.MergeLaws.{contains_merged, long_merged, ordered_merged}
 use Rattle.isl_scan.proofs.PairLaws.{AllPairs-append, AllPairs-head, AllPairs-nil, AllPairs-parts, AllPairs-tail}
 use Rattle.isl_scan.proofs.PairLaws.{Contains-cases, Contains-first}
-use Rattle.isl_scan.proofs.SpaceTextLaws.{same_space}
+use Rattle.isl_index.proofs.TextLaws.{same_space}
 
 abbrev ComesBefore : Group → Group → Type 0
 ComesBefore a b = IsSpaceBefore (space_in a) (space_in b)

@@ -4,5 +4,4 @@ mod MergeLaws
 mod MergedGroupLaws
 mod MergingLaws
 mod PairLaws
-mod SpaceTextLaws
 mod TextLaws

@@ -6,6 +6,7 @@ pub mod ListingText
 pub mod Merged
 pub mod Rest
 pub mod Stored
+pub mod Weight
 pub use Rattle.isl_space.specs.Element
 pub use Rattle.isl_space.specs.Valuation
 pub use Rattle.isl_union.specs.Finite

@@ -1,8 +1,9 @@
 //! Elements of one space.
 
-ghost use Rattle.std.specs.Prelude.{◌≡◌, ◌+◌, ◌<◌, ◌^◌, ◌∷◌, ◌++◌, suc, IfOk, OnOk, length, reverse};
+ghost use Rattle.std.specs.Prelude.{◌≡◌, ◌+◌, ◌<◌, ◌^◌, ◌∷◌, ◌++◌, suc, IfOk, OnOk, length, min, reverse, sum_by};
 ghost use Rattle.isl_scan.specs.declared.group.Group.{Group};
 ghost use Rattle.isl_scan.specs.Groups.{elements_of, space_in, AreGroups, AreLeft, AreMerged, IsGroup, IsJoined};
+ghost use Rattle.isl_scan.specs.Weight.{weight};
 
 use crate::merge::merged;
 use isl_points::Points;
@@ -20,13 +21,17 @@ pub(crate) struct Group {
 
 impl Group {
     // How many numbers take as much memory as it does: those of its points, and one for every 16 bytes of its title.
-    pub(crate) fn weight(&self) -> usize {
+    pub(crate) fn weight(&self) -> usize
+        ensures { result ≡ min (weight self.now) usize.MAX }
+    {
         self.points.size().saturating_add(self.title.len() / 16)
     }
 }
 
 // The same of all of them.
-pub(crate) fn weight_of(groups: &[Group]) -> usize {
+pub(crate) fn weight_of(groups: &[Group]) -> usize
+    ensures { result ≡ min (sum_by weight groups.now) usize.MAX }
+{
     let mut weight = 0usize;
     for group in groups {
         weight = weight.saturating_add(group.weight());
