@@ -18,35 +18,10 @@ ghost use Rattle.isl_union.specs.Pieces.{IsOfAny};
 ghost use Rattle.isl_union.specs.Tame.{size_of, systems_of};
 
 use crate::live::{live_piece, push_found};
-use isl_difference::{are_too_heavy, share_of};
 use isl_meter::{Cut, Meter};
 use isl_piece::{Piece, System};
 use isl_space::{Params, Space};
 use std::alloc::{AllocError, Global};
-
-// How many rows the pieces have, and one more for each.
-fn weight_of(pieces: &[Piece]) -> usize {
-    let mut weight = pieces.len();
-    for piece in pieces {
-        weight = weight.saturating_add(piece.system().rows.len());
-    }
-    weight
-}
-
-// Whether the rows of all the pieces take more memory than is kept, as those of the others tell; and where there is room for fewer, whether
-// all of them do.
-fn take_too_much(pieces: &[Piece], others: &[Piece], room: usize) -> bool {
-    let Some(last) = others.last() else {
-        return false;
-    };
-    let columns = last.system().columns;
-    let count = pieces.len().saturating_add(others.len());
-    let weight = weight_of(others);
-    if are_too_heavy(share_of(count, weight, others.len()), columns) {
-        return true;
-    }
-    room < count && are_too_heavy(weight.saturating_add(weight_of(pieces)), columns)
-}
 
 /// Puts the other pieces behind these.
 ///
@@ -57,10 +32,7 @@ pub fn append(pieces: &mut Vec<Piece>, more: Vec<Piece>) -> Result<(), AllocErro
     ensures { OnOk result (pieces.new.items ≡ pieces.old.items ++ more.items) }
 {
     let mut more = more;
-    if take_too_much(pieces.as_slice(), more.as_slice(), pieces.capacity()) {
-        return Err(AllocError);
-    }
-    pieces.append(&mut more)
+    isl_difference::append(pieces, &mut more)
 }
 
 /// A piece of the space for each of the systems, in their order.
