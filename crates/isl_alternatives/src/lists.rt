@@ -9,7 +9,7 @@ ghost use Rattle.isl_affine.specs.Scope.{Scope as Names};
 ghost use Rattle.isl_alternatives.specs.Restricted.{AreRestricted, HoldEverywhere, HoldsAs, IsOver};
 
 use isl_affine::Scope;
-use isl_difference::{live_form, outside, references, share_of, weight_of};
+use isl_difference::{are_too_heavy, live_form, outside, references, take_too_much};
 use isl_meter::{Cut, Meter};
 use isl_piece::{Rows, System, meet, normalise};
 use std::alloc::{AllocError, Global};
@@ -20,31 +20,8 @@ pub(crate) const ROOM: usize = 1_024;
 // So many rows more a copied system takes without new memory: mostly one row comes, or both of an interval.
 const MORE_ROWS: usize = 2;
 
-// Whether so many rows over so many columns take more memory than is kept. Their lists, which grow, have room for twice as many.
-fn are_too_heavy(weight: usize, columns: usize) -> bool {
-    isl_difference::are_too_heavy(weight.saturating_mul(2), columns)
-}
-
-// Whether the systems do.
-fn take_too_much(systems: &[System]) -> bool {
-    match systems.last() {
-        Some(last) => are_too_heavy(weight_of(systems), last.columns),
-        None => false,
-    }
-}
-
-// Whether all the systems do, as the others tell; and where there is room for fewer, whether all of them do.
-fn take_too_much_with(systems: &[System], others: &[System], room: usize) -> bool {
-    let Some(last) = others.last() else {
-        return false;
-    };
-    let count = systems.len().saturating_add(others.len());
-    let weight = weight_of(others);
-    if are_too_heavy(share_of(count, weight, others.len()), last.columns) {
-        return true;
-    }
-    room < count && are_too_heavy(weight.saturating_add(weight_of(systems)), last.columns)
-}
+// Each system counts so many times: the lists, which grow, have room for twice as many.
+const TIMES: usize = 2;
 
 /// Puts the other systems behind these. A list alone is as long as it was.
 ///
@@ -55,7 +32,7 @@ pub(crate) fn append(systems: &mut Vec<System>, more: &mut Vec<System>) -> Resul
     ensures items { OnOk result (systems.new.items ≡ systems.old.items ++ more.old.items) }
 {
     let room = systems.capacity();
-    if !systems.is_empty() && take_too_much_with(systems.as_slice(), more.as_slice(), room) {
+    if !systems.is_empty() && take_too_much(systems.as_slice(), more.as_slice(), room, TIMES) {
         return Err(AllocError);
     }
     systems.append(more)
@@ -127,7 +104,7 @@ fn met_with(alloc: Global, systems: &[System], other: &System) -> Result<Vec<Sys
     for system in systems {
         let both = meet(alloc, system, other)?;
         weight = weight.saturating_add(both.rows.len()).saturating_add(1);
-        if are_too_heavy(weight, both.columns) {
+        if are_too_heavy(weight.saturating_mul(TIMES), both.columns) {
             return Err(AllocError);
         }
         met.push(both)?;
@@ -286,7 +263,7 @@ pub(crate) fn with_room(
         (λ forms. AreRestricted meter.old meter.new scope.now systems.items (λ point env. Unit {0}) forms.items) }
     ensures meter { meter.new ≡ meter.old }
 {
-    if take_too_much(systems.as_slice()) {
+    if take_too_much(&[], systems.as_slice(), 0, TIMES) {
         return Err(AllocError);
     }
     if most_rows(systems.as_slice()) <= *room {
