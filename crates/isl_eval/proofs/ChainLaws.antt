@@ -5,7 +5,7 @@ use Rattle.std.specs.List.{All, list_any}
 use Rattle.std.proofs.lemmas.Bool.{false≢true}
 use Rattle.std.proofs.lemmas.List.Elements.{All-nil, All-cons, All-append}
 use Rattle.isl_space.specs.Name.{Name}
-use Rattle.isl_text.specs.declared.refusal.Refusal.TheVariants as r
+use Rattle.isl_refusal.specs.declared.refusal.Refusal.TheVariants as r
 use Rattle.isl_lower.specs.Value.{IsWellFormedLiteral}
 use Rattle.isl_expr.specs.declared.tree.Binary.TheVariants.{Gist}
 use Rattle.isl_expr.specs.declared.tree.Prefix.TheVariants.{Sample}
@@ -23,8 +23,8 @@ use Rattle.isl_kinds.specs.Typed.{declared_of, kind_for, with_params, type_for, 
 use Rattle.isl_eval.proofs.TestLaws.{made_of-Row, whole_row}
 use Rattle.isl_flat.specs.Flat.{flat, link_of}
 use Rattle.isl_flat.specs.Simple.{bindings_of, last_of, BindFrom, IsSimple, IsSimpleExpr, HasType, AreTyped, statement_declared}
-use Rattle.isl_flat.proofs.SimpleLaws.{flat_ends, literals_kept, flat_is_simple, bindings_are_numbered}
-use Rattle.isl_flat.proofs.TypedLaws.{flat_is_typed}
+use Rattle.isl_flat_law.proofs.SimpleLaws.{flat_ends, literals_kept, flat_is_simple, bindings_are_numbered}
+use Rattle.isl_flat_law.proofs.TypedLaws.{flat_is_typed}
 use Rattle.isl_stmt.specs.Names.{HasNoDollar, binds_dollar}
 use Rattle.isl_stmt.proofs.NameLaws.{bytes_spell_no_dollar}
 use Rattle.isl_values.specs.State.{Moment, scope_of}

@@ -8,7 +8,7 @@ use Rattle.isl_space.specs.Valuation.{Valuation}
 use Rattle.isl_expr.specs.declared.tree.Stmt.{Stmt}
 use Rattle.isl_expr.specs.declared.tree.Stmt.TheVariants.{Show}
 use Rattle.isl_expr.specs.declared.tree.Expr.{Expr}
-use Rattle.isl_text.specs.declared.refusal.Refusal.TheVariants as r
+use Rattle.isl_refusal.specs.declared.refusal.Refusal.TheVariants as r
 use Rattle.isl_kinds.specs.Typed.{TypeView, ScopeView, type_of_statement, Answers as TypeAnswers}
 use Rattle.isl_flat.specs.Simple.{statement_declared}
 use Rattle.isl_words.specs.Options.{OptionsView}

@@ -15,8 +15,8 @@ use Rattle.isl_loop.proofs.LimitLaws.{IsLoopOver-same}
 use Rattle.isl_schedule.specs.Refused.{IsRefused}
 use Rattle.isl_schedule.specs.declared.fault.GenFault.{GenFault}
 use Rattle.isl_schedule.specs.declared.fault.GenFault.TheVariants as gen_fault
-use Rattle.isl_due.specs.Due.{IsDue}
-use Rattle.isl_text.specs.declared.refusal.Refusal.{Refusal}
+use Rattle.isl_schedule.specs.Due.{IsDue}
+use Rattle.isl_refusal.specs.declared.refusal.Refusal.{Refusal}
 use Rattle.isl_union.specs.KeptValue.{KeptValue, Has, IsKeptValue}
 use Rattle.isl_assumed.specs.declared.assumed.Assumed.{Assumed}
 use Rattle.isl_assumed.specs.declared.assumed.Assumed.TheVariants.{Nothing, Where}
@@ -32,10 +32,10 @@ use Rattle.isl_values.specs.Live.{IsUnderOf}
 use Rattle.isl_values.specs.State.{Moment, StateView, scope_of}
 use Rattle.isl_values.specs.Made.{IsPaid, IsWhyUnmade, IsWhyUnworked}
 use Rattle.isl_values.specs.Three.{IsFlatAt}
-use Rattle.isl_values.specs.declared.list.ListPart.TheVariants.{First}
+use Rattle.isl_state.specs.declared.list.ListPart.TheVariants.{First}
 use Rattle.isl_values.specs.Selection.{Selects}
 use Rattle.isl_values.specs.Ends.{because, cut, CutAlone, CutUnder, End, Ends, GoesOn, nested, time_shapes, unbounded, several_times}
-use Rattle.isl_values.proofs.FirstLaws.{EndAlike, goes_alike, goes_both}
+use Rattle.isl_outcome.proofs.FirstLaws.{EndAlike, goes_alike, goes_both}
 use Rattle.isl_values.proofs.UnderLaws.{has_same}
 use Rattle.isl_values.proofs.ValueLaws.{paid_works}
 use Rattle.isl_eval.specs.Coded.{AtAssumedNumbers, GenerationEnds, IsCodeOf, code_text}

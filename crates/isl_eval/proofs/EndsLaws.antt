@@ -20,7 +20,7 @@ use Rattle.isl_values.specs.Selection.{Selects}
 use Rattle.isl_values.specs.Ends.{CutAlone, End, because, cut}
 use Rattle.isl_values.specs.Ends.{NoEnd, GoesOn, FirstEnds, OperationEnds, Ends, EndsRow}
 use Rattle.isl_values.specs.Ends.{PairEnds, WordEnds}
-use Rattle.isl_values.proofs.FirstLaws.{EndAlike, alike_itself, alike_trans, first_alike, goes_alike, goes_both, operation_alike, turned_alike}
+use Rattle.isl_outcome.proofs.FirstLaws.{EndAlike, alike_itself, alike_trans, first_alike, goes_alike, goes_both, operation_alike, turned_alike}
 use Rattle.isl_values.proofs.EndsLaws.{Behind}
 use Rattle.isl_values.proofs.EndsLaws.{ends_of-Prefix, row_alike, row_split}
 use Rattle.isl_values.proofs.OutcomeLaws.{operation_goes}

@@ -33,9 +33,9 @@ use Rattle.isl_text.proofs.DivisorLaws.{IsDivided, outline_divided}
 use Rattle.isl_formula.specs.FormulaGrammar.{formula}
 use Rattle.isl_text.specs.Piece.{make_literal}
 use Rattle.isl_lower_params.specs.Params.{HasNoCoordinates}
-use Rattle.isl_pset.specs.PsetGrammar.{pset_grammar}
-use Rattle.isl_pset.specs.PsetGrammar as psets_grammar
-use Rattle.isl_pset.proofs.SpelledLaws as psets
+use Rattle.isl_text.specs.PsetGrammar.{pset_grammar}
+use Rattle.isl_text.specs.PsetGrammar as psets_grammar
+use Rattle.isl_text.proofs.PsetSpelled as psets
 use Rattle.isl_eval.proofs.NameLaws.{IsNamedLiteral, outline_has, pset_outline_has}
 use Rattle.isl_eval.proofs.PlainLaws.{is_lone}
 use Rattle.isl_eval.proofs.FullLaws.{lone_of-Row, lone_of-Post, lone_of-Prefix, lone_of-Any, lone_of-Last}

@@ -31,8 +31,8 @@ use Rattle.isl_formula.specs.FormulaGrammar.{formula}
 use Rattle.isl_formula.proofs.SpelledLaws.{Has, whatever, pure_has, bind_has, then_has, either_has, many_has}
 use Rattle.isl_text.specs.LiteralGrammar as g
 use Rattle.isl_text.specs.Piece.{make_piece, make_literal}
-use Rattle.isl_pset.specs.PsetGrammar as sets
-use Rattle.isl_pset.proofs.SpelledLaws.{pieces_have}
+use Rattle.isl_text.specs.PsetGrammar as sets
+use Rattle.isl_text.proofs.PsetSpelled.{pieces_have}
 
 -- ---- names
 -- the words of a table that has no name are not this word, where the table has no kind for it

@@ -9,8 +9,8 @@ use Rattle.isl_meter.specs.declared.Cut.TheVariants as cuts
 use Rattle.isl_meter.proofs.CutLemmas.{IsCharged_refl, IsCutBy-overflown, IsKept_refl, IsKept-overflown}
 use Rattle.isl_assumed.specs.declared.assumed.Assumed.{Assumed}
 use Rattle.isl_piece.specs.Cut.{IsCutFor}
-use Rattle.isl_text.specs.declared.refusal.Refusal.{Refusal}
-use Rattle.isl_text.specs.declared.refusal.Refusal.TheVariants as r
+use Rattle.isl_refusal.specs.declared.refusal.Refusal.{Refusal}
+use Rattle.isl_refusal.specs.declared.refusal.Refusal.TheVariants as r
 use Rattle.isl_expr.specs.declared.tree.Prefix.TheVariants as p
 use Rattle.isl_expr.specs.declared.tree.Expr.{Expr, Prefix'}
 use Rattle.isl_expr.specs.declared.tree.Stmt.{Stmt}

@@ -30,8 +30,8 @@ use Rattle.isl_scan.specs.declared.fault.ScanFault.{ScanFault}
 use Rattle.isl_scan.specs.declared.fault.ScanFault.TheVariants as scan_fault
 use Rattle.isl_scan.specs.Fault.{IsScanFault}
 use Rattle.isl_scan.specs.Listing.{IsListingOf}
-use Rattle.isl_text.specs.declared.refusal.Refusal.{Refusal}
-use Rattle.isl_text.specs.declared.refusal.Refusal.TheVariants.{NoMemory}
+use Rattle.isl_refusal.specs.declared.refusal.Refusal.{Refusal}
+use Rattle.isl_refusal.specs.declared.refusal.Refusal.TheVariants.{NoMemory}
 use Rattle.isl_lower.specs.Value.{IsWellFormedLiteral}
 use Rattle.isl_tree.specs.declared.tree.Literal.{Literal}
 use Rattle.isl_expr.specs.declared.tree.Binary.{Binary}
@@ -59,9 +59,9 @@ use Rattle.isl_kinds.specs.Typed.{type_for, type_of_statement, Answers as TypeAn
 use Rattle.isl_flat.specs.Flat.{is_gist, is_sample, link_of}
 use Rattle.isl_kinds.proofs.DeclaredLaws.{declared_of-Prefix, declared_of-Row}
 use Rattle.isl_kinds.proofs.PartLaws.{parts_of-Prefix, parts_of-Row}
-use Rattle.isl_values.specs.declared.list.ListPart.{ListPart}
-use Rattle.isl_values.specs.declared.list.ListPart.TheVariants.{First, Second}
-use Rattle.isl_values.specs.declared.list.ListValue.{ListValue}
+use Rattle.isl_state.specs.declared.list.ListPart.{ListPart}
+use Rattle.isl_state.specs.declared.list.ListPart.TheVariants.{First, Second}
+use Rattle.isl_state.specs.declared.list.ListValue.{ListValue}
 use Rattle.isl_values.specs.State.{Binds, Fits, Kept, Moment, Narrows, StateView, HasNumbersUpTo, scope_of, type_of}
 use Rattle.isl_values.specs.Worked.{IsWorked}
 use Rattle.isl_values.specs.Live.{IsLiveUnder, IsSampleAt}
@@ -73,7 +73,7 @@ use Rattle.isl_values.specs.Made.{IsWhyUnworked}
 use Rattle.isl_values.specs.Ends.{End, because, cut, too_wide, no_minimum, nested, time_shapes, unbounded, several_times}
 use Rattle.isl_values.specs.Ends.{no_valuation, not_assumed}
 use Rattle.isl_values.specs.Ends.{CutAlone, Ends, GoesOn, NarrowingEnds}
-use Rattle.isl_values.proofs.FirstLaws.{EndAlike, alike_trans, goes_alike, goes_both, turned_alike}
+use Rattle.isl_outcome.proofs.FirstLaws.{EndAlike, alike_trans, goes_alike, goes_both, turned_alike}
 use Rattle.isl_values.proofs.FlatLaws.{written_itself}
 use Rattle.isl_values.proofs.EndsLaws.{ends_of-Row}
 use Rattle.isl_values.proofs.PartLaws.{all_left, all_right, quiet_both, sound_links}

@@ -17,7 +17,7 @@ use Rattle.isl_union.specs.KeptValue.{KeptValue}
 use Rattle.isl_assumed.specs.declared.assumed.Assumed.{Assumed}
 use Rattle.isl_assumed.specs.Assumed.{Assumes}
 use Rattle.isl_words.specs.Options.{OptionsView}
-use Rattle.isl_text.specs.declared.refusal.Refusal.{Refusal}
+use Rattle.isl_refusal.specs.declared.refusal.Refusal.{Refusal}
 use Rattle.isl_expr.specs.declared.tree.ValueKind.{ValueKind}
 use Rattle.isl_expr.specs.declared.tree.Stmt.{Stmt}
 use Rattle.isl_expr.specs.declared.tree.Stmt.TheVariants.{Empty, Bind, Show, Assume}
@@ -25,10 +25,10 @@ use Rattle.isl_expr.specs.declared.tree.Expr.{Expr}
 use Rattle.isl_kinds.specs.Typed.{TypeView, is_dollar, kind_of, type_of_statement}
 use Rattle.isl_flat.specs.Flat.{flat}
 use Rattle.isl_flat.specs.Simple.{BindsIn}
-use Rattle.isl_flat.proofs.SimpleLaws.{parts_kept}
+use Rattle.isl_flat_law.proofs.SimpleLaws.{parts_kept}
 use Rattle.isl_stmt.specs.Names.{binds_dollar}
-use Rattle.isl_values.specs.declared.list.ListPart.{ListPart}
-use Rattle.isl_values.specs.declared.list.ListPart.TheVariants.{First, Second}
+use Rattle.isl_state.specs.declared.list.ListPart.{ListPart}
+use Rattle.isl_state.specs.declared.list.ListPart.TheVariants.{First, Second}
 use Rattle.isl_values.specs.State.{Kept, Moment, StateView, Binds, Fits, HasNumbersUpTo, IsKeptLive, IsSettled, type_of, scope_of, forgotten}
 use Rattle.isl_values.specs.State.{value_at}
 use Rattle.isl_values.specs.Selection.{IsKeptOf, Keeps}
@@ -37,8 +37,8 @@ use Rattle.isl_values.specs.Ends.{End, Reason, because, too_wide, no_minimum, ne
 use Rattle.isl_values.specs.Ends.{no_valuation, not_assumed, refusal_of_reason}
 use Rattle.isl_values.specs.Ends as ends
 use Rattle.isl_values.specs.Made.{IsPaid, IsWhyUnworked, refusal_of_cut, uses_units}
-use Rattle.isl_values.proofs.StateLaws.{bound_at}
-use Rattle.isl_values.proofs.ForgetLaws.{forgotten_itself, forgotten_settled, fits_forgotten}
+use Rattle.isl_state.proofs.StateLaws.{bound_at}
+use Rattle.isl_state.proofs.ForgetLaws.{forgotten_itself, forgotten_settled, fits_forgotten}
 use Rattle.isl_values.proofs.ValueLaws.{same_limit, paid_same, paid_after, unworked_after}
 use Rattle.isl_eval.specs.Machine.{Answer, Does, Step, Steps, behind, nothing}
 use Rattle.isl_eval.specs.Causes.{AreDone, IsEnded, Refuses, RefusesBecause}

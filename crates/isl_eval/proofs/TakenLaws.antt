@@ -1,8 +1,8 @@
 -- What the bytes of a statement are taken for: its simple statements, or a refusal.
 use Rattle.std.proofs.Common.{◌≡◌, sym, ap, subst, ◌≤◌, ◌^◌, ℕ, List, Option, length}
 use Rattle.isl_meter.specs.Gauge.{Gauge}
-use Rattle.isl_text.specs.declared.refusal.Refusal.{Refusal}
-use Rattle.isl_text.specs.declared.refusal.Refusal.TheVariants as r
+use Rattle.isl_refusal.specs.declared.refusal.Refusal.{Refusal}
+use Rattle.isl_refusal.specs.declared.refusal.Refusal.TheVariants as r
 use Rattle.isl_expr.specs.declared.tree.Stmt.{Stmt}
 use Rattle.isl_kinds.specs.Typed.{ScopeView, TypeView}
 use Rattle.isl_flat.specs.Flat.{flat}

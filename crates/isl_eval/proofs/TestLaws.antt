@@ -16,8 +16,8 @@ use Rattle.isl_union.specs.KeptValue.{KeptValue, Has, IsKeptValue}
 use Rattle.isl_union.specs.Fault.{IsFaultBy}
 use Rattle.isl_union.specs.declared.fault.OpFault.{OpFault}
 use Rattle.isl_union.specs.declared.fault.OpFault.TheVariants as op_fault
-use Rattle.isl_text.specs.declared.refusal.Refusal.{Refusal}
-use Rattle.isl_text.specs.declared.refusal.Refusal.TheVariants as refusals
+use Rattle.isl_refusal.specs.declared.refusal.Refusal.{Refusal}
+use Rattle.isl_refusal.specs.declared.refusal.Refusal.TheVariants as refusals
 use Rattle.isl_space.specs.Element.{Element}
 use Rattle.isl_space.specs.Valuation.{Valuation}
 use Rattle.isl_expr.specs.declared.tree.Binary.{Binary}

@@ -13,13 +13,13 @@ use Rattle.isl_loop.specs.Good.{AreGood}
 use Rattle.isl_loop.specs.Nest.{Timed}
 use Rattle.isl_loop.specs.Run.{Event}
 use Rattle.isl_schedule.specs.Schedule.{HasNested, HasOneTimeForm, IsSchedule, IsVisitedAt}
-use Rattle.isl_due.specs.Due.{IsDue}
+use Rattle.isl_schedule.specs.Due.{IsDue}
 use Rattle.isl_operators.specs.Formed.{AreIn}
 use Rattle.isl_operators.proofs.ElementLaws.{lives}
 use Rattle.isl_operators.proofs.WideLaws.{are_in}
 use Rattle.isl_values.specs.Ends.{End, because, cut, too_wide, no_minimum, nested, time_shapes, unbounded, several_times}
 use Rattle.isl_values.specs.Ends.{no_valuation, not_assumed, Elements, GoesOn}
-use Rattle.isl_values.proofs.FirstLaws.{EndAlike}
+use Rattle.isl_outcome.proofs.FirstLaws.{EndAlike}
 use Rattle.isl_eval.specs.Coded.{AreFiniteEverywhere, GenerationEnds, HaveOneTimeForm, HaveSingleTimes, VisitsPair}
 
 -- ---- more elements, more visits

@@ -11,8 +11,8 @@ use Rattle.isl_words.specs.Options.{OptionsView}
 use Rattle.isl_token.specs.Lex.{tokens}
 use Rattle.isl_token.specs.Depth.{is_too_deep}
 use Rattle.isl_assumed.specs.declared.assumed.Assumed.{Assumed}
-use Rattle.isl_text.specs.declared.refusal.Refusal.{Refusal}
-use Rattle.isl_text.specs.declared.refusal.Refusal.TheVariants as r
+use Rattle.isl_refusal.specs.declared.refusal.Refusal.{Refusal}
+use Rattle.isl_refusal.specs.declared.refusal.Refusal.TheVariants as r
 use Rattle.isl_text.specs.Read.{has_wide_number}
 use Rattle.isl_expr.specs.declared.tree.Stmt.{Stmt}
 use Rattle.isl_expr.specs.declared.tree.Stmt.TheVariants.{Empty, Bind, Show, Assume}

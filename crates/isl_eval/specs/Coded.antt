@@ -6,7 +6,7 @@ use Rattle.isl_space.specs.Name.{Name}
 use Rattle.isl_space.specs.SpaceForm.{SpaceForm}
 use Rattle.isl_space.specs.Valuation.{Valuation, values_of}
 use Rattle.isl_words.specs.Options.{OptionsView}
-use Rattle.isl_call_text.specs.CallText.{call_lines}
+use Rattle.isl_ast.specs.CallText.{call_lines}
 use Rattle.isl_loop.specs.declared.tree.Loop.{Loop}
 use Rattle.isl_loop.specs.Formed.{IsLoopOver}
 use Rattle.isl_loop.specs.Good.{AreGood}
@@ -14,7 +14,7 @@ use Rattle.isl_loop.specs.Run.{trace}
 use Rattle.isl_loop_text.specs.LoopText.{loop_text}
 use Rattle.isl_relation.specs.Point.{Point}
 use Rattle.isl_schedule.specs.Schedule.{domain_form, time_form, IsPair, IsVisitedAt}
-use Rattle.isl_due.specs.Due.{IsDue}
+use Rattle.isl_schedule.specs.Due.{IsDue}
 use Rattle.isl_operators.specs.Formed.{AreIn}
 use Rattle.isl_assumed.specs.Assumed.{Assumes}
 use Rattle.isl_values.specs.State.{Everywhere, StateView}

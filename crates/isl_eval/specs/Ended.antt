@@ -12,7 +12,7 @@ use Rattle.isl_tree.specs.declared.tree.Literal.{Literal}
 use Rattle.isl_kinds.specs.Typed.{declared_in}
 use Rattle.isl_values.specs.State.{Moment, StateView, scope_of}
 use Rattle.isl_values.specs.Selection.{SelectsIn}
-use Rattle.isl_values.specs.declared.list.ListPart.TheVariants.{First}
+use Rattle.isl_state.specs.declared.list.ListPart.TheVariants.{First}
 use Rattle.isl_values.specs.Ends.{End, because, cut, too_wide, no_minimum, nested, time_shapes, unbounded, several_times}
 use Rattle.isl_values.specs.Ends.{no_valuation, not_assumed}
 use Rattle.isl_values.specs.Ends.{CutAlone, Elements, NoEnd, FirstEnds, Ends, EndsIn, NarrowingEnds}

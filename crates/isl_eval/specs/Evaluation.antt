@@ -13,17 +13,17 @@ use Rattle.isl_union.specs.KeptValue.{KeptValue, HasNoDefinitions, IsKeptValue}
 use Rattle.isl_union.specs.Fault.{IsFaultBy}
 use Rattle.isl_assumed.specs.declared.assumed.Assumed.{Assumed}
 use Rattle.isl_union.specs.declared.fault.OpFault.{OpFault}
-use Rattle.isl_call_text.specs.CallText.{call_lines}
+use Rattle.isl_ast.specs.CallText.{call_lines}
 use Rattle.isl_loop.specs.declared.tree.Loop.{Loop}
 use Rattle.isl_loop.specs.Formed.{IsLoopOver}
 use Rattle.isl_loop.specs.Run.{trace}
 use Rattle.isl_schedule.specs.declared.fault.GenFault.{GenFault}
 use Rattle.isl_schedule.specs.declared.fault.GenFault.TheVariants as gen_fault
-use Rattle.isl_due.specs.Good.{IsGoodTree}
+use Rattle.isl_schedule.specs.Good.{IsGoodTree}
 use Rattle.isl_scan.specs.declared.fault.ScanFault.{ScanFault}
 use Rattle.isl_scan.specs.declared.fault.ScanFault.TheVariants as scan_fault
-use Rattle.isl_text.specs.declared.refusal.Refusal.{Refusal}
-use Rattle.isl_text.specs.declared.refusal.Refusal.TheVariants.{NoMemory, Nested, NotAssumed, Parametric, SeveralTimes, TimeShape, Unbounded}
+use Rattle.isl_refusal.specs.declared.refusal.Refusal.{Refusal}
+use Rattle.isl_refusal.specs.declared.refusal.Refusal.TheVariants.{NoMemory, Nested, NotAssumed, Parametric, SeveralTimes, TimeShape, Unbounded}
 use Rattle.isl_lower.specs.Value.{IsWellFormedLiteral}
 use Rattle.isl_expr.specs.declared.tree.Prefix.{Prefix}
 use Rattle.isl_expr.specs.declared.tree.Prefix.TheVariants as p
@@ -40,7 +40,7 @@ use Rattle.isl_kinds.specs.Typed.{TypeView, ScopeView, is_dollar, has_unknown}
 use Rattle.isl_kinds.specs.Typed.{declared_of, joined_names, type_of_statement}
 use Rattle.isl_flat.specs.Flat.{flat, is_gist, is_sample}
 use Rattle.isl_flat.specs.Simple.{BindsIn}
-use Rattle.isl_values.specs.declared.list.ListPart.TheVariants.{First}
+use Rattle.isl_state.specs.declared.list.ListPart.TheVariants.{First}
 use Rattle.isl_values.specs.State.{Kept, Moment, StateView, Fits, HasNumbersUpTo, scope_of, forgotten}
 use Rattle.isl_values.specs.Live.{IsLiveUnder, IsSampleAt}
 use Rattle.isl_values.specs.Selection.{IsGistOfTwo, IsKeptOf, IsSelected, IsTogetherOf, Keeps, Selects, RowSelects, context_of}

@@ -12,7 +12,7 @@ use Rattle.isl_expr.specs.declared.tree.Stmt.{Stmt}
 use Rattle.isl_expr.specs.declared.tree.Stmt.TheVariants.{Empty, Bind, Show, Assume}
 use Rattle.isl_flat.specs.Flat.{flat}
 use Rattle.isl_lower_params.specs.Params.{HoldsSome}
-use Rattle.isl_values.specs.declared.list.ListPart.TheVariants.{First}
+use Rattle.isl_state.specs.declared.list.ListPart.TheVariants.{First}
 use Rattle.isl_kinds.specs.Typed.{declared_in}
 use Rattle.isl_values.specs.State.{Kept, Moment, Binds, Narrows, forgotten, scope_of}
 use Rattle.isl_values.specs.Selection.{Keeps, SelectsIn}

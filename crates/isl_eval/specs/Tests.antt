@@ -6,7 +6,7 @@ use Rattle.isl_expr.specs.declared.tree.Binary.{Binary}
 use Rattle.isl_expr.specs.declared.tree.Binary.TheVariants as b
 use Rattle.isl_expr.specs.declared.tree.Expr.{Row_of-Expr, Row_of-Link, end_of-Link, more_of-Link}
 use Rattle.isl_operators.specs.Operations.{OperatorHas}
-use Rattle.isl_values.specs.declared.list.ListPart.TheVariants.{First}
+use Rattle.isl_state.specs.declared.list.ListPart.TheVariants.{First}
 use Rattle.isl_values.specs.State.{StateView, Everywhere}
 use Rattle.isl_values.specs.Selection.{Selects, SelectsIn}
 

@@ -36,8 +36,8 @@ use isl_coalesce::coalesce;
 use isl_expr::tree::{Binary, Expr, Link, Prefix, ValueKind};
 use isl_gist::gist;
 use isl_meter::Meter;
+use isl_refusal::Refusal;
 use isl_scan::{ScanFault, scan};
-use isl_text::refusal::Refusal;
 use isl_union::{OpFault, Value};
 use isl_values::{
     Kept, State, flat_list_of, flat_value_of, refusal_of, right_under, under_own, value_of,

@@ -7,8 +7,8 @@ ghost use Rattle.isl_eval.specs.Evaluation.{IsRead, IsWhyNot};
 
 use isl_expr::tree::Stmt;
 use isl_meter::Meter;
+use isl_refusal::Refusal;
 use isl_stmt::read_statement;
-use isl_text::refusal::Refusal;
 use std::alloc::Global;
 
 /// The statement that the bytes spell.

@@ -23,7 +23,7 @@ use isl_expr::tree::Stmt;
 use isl_flat::{SimpleStmt, flatten};
 use isl_kinds::Typed;
 use isl_meter::Meter;
-use isl_text::refusal::Refusal;
+use isl_refusal::Refusal;
 use isl_values::{State, refusal_of};
 use isl_words::Options;
 use std::alloc::Global;

@@ -14,7 +14,7 @@ ghost use Rattle.isl_eval.specs.Evaluation.{ends_with_test, EndsTest, EndsTwo, I
 
 use isl_expr::tree::{Binary, Expr, Link};
 use isl_meter::Meter;
-use isl_text::refusal::Refusal;
+use isl_refusal::Refusal;
 use isl_union::{OpFault, Value};
 use isl_values::{State, both_under, joined_past, refusal_of, value_of};
 use std::alloc::Global;

@@ -10,8 +10,8 @@ ghost use Rattle.isl_eval.specs.Evaluation.{names_of, IsWorkable, IsWhyUnworkabl
 
 use isl_expr::tree::{Expr, Prefix, Stmt};
 use isl_kinds::{Scope, Typed, typed_statement};
+use isl_refusal::Refusal;
 use isl_space::Name;
-use isl_text::refusal::Refusal;
 use isl_words::Options;
 use std::alloc::Global;
 

@@ -3,9 +3,9 @@
 use Rattle.std.specs.Prelude.{◌⊎◌, ◌<◌, ◌≤◌, List, length}
 use Rattle.isl_space.specs.Limits.{most_parameters}
 use Rattle.isl_space.specs.Name.{Name}
-use Rattle.isl_text.specs.declared.refusal.Refusal.{Refusal}
-use Rattle.isl_text.specs.declared.refusal.Refusal.TheVariants.{TooWide, NoMinimum, Nested, TimeShape, Unbounded, SeveralTimes}
-use Rattle.isl_text.specs.declared.refusal.Refusal.TheVariants.{NoValuation, NotAssumed}
+use Rattle.isl_refusal.specs.declared.refusal.Refusal.{Refusal}
+use Rattle.isl_refusal.specs.declared.refusal.Refusal.TheVariants.{TooWide, NoMinimum, Nested, TimeShape, Unbounded, SeveralTimes}
+use Rattle.isl_refusal.specs.declared.refusal.Refusal.TheVariants.{NoValuation, NotAssumed}
 
 -- for what reason an evaluation ends, whatever its work uses
 pub data Reason : Type 0 where

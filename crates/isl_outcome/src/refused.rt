@@ -4,7 +4,7 @@ ghost use Rattle.std.specs.Prelude.{◌≡◌};
 ghost use Rattle.isl_outcome.specs.Why.{refusal_of_cut};
 
 use isl_meter::Cut;
-use isl_text::refusal::Refusal;
+use isl_refusal::Refusal;
 
 /// Why a statement is refused whose work was cut so.
 pub fn refusal_of(cut: Cut) -> Refusal

@@ -6,7 +6,7 @@ ghost use Rattle.isl_refusal.specs.Refusal.{code_of, in_statement, is_in_stateme
 use std::alloc::{AllocError, AllocFailed};
 
 /// Why a run ends before its script does.
-#[derive(Clone, Copy, Debug, PartialEq, Eq)]
+#[derive(Clone, Copy, PartialEq, Eq)]
 pub enum Refusal {
     /// The command line is none that the program takes.
     Usage,

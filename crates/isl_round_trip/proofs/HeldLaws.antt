@@ -20,11 +20,11 @@ use Rattle.isl_expr.specs.declared.tree.Stmt.TheVariants.{Empty, Bind, Show, Ass
 use Rattle.isl_expr.specs.declared.tree.ValueKind.{ValueKind}
 use Rattle.isl_flat.specs.Flat.{flat}
 use Rattle.isl_flat.specs.Simple.{bindings_of, last_of, BindFrom}
-use Rattle.isl_flat.proofs.SimpleLaws.{flat_ends, bindings_are_numbered}
+use Rattle.isl_flat_law.proofs.SimpleLaws.{flat_ends, bindings_are_numbered}
 use Rattle.isl_values.specs.Live.{IsLivePartOf, IsLiveUnder}
 use Rattle.isl_values.specs.State.{Moment, StateView, AreLeftOf, value_at}
-use Rattle.isl_values.proofs.LiveLaws.{each_live, part_numbers, part_plain}
-use Rattle.isl_values.proofs.NarrowLaws.{left_lookup}
+use Rattle.isl_state.proofs.LiveLaws.{each_live, part_numbers, part_plain}
+use Rattle.isl_state.proofs.LeftLaws.{left_lookup}
 use Rattle.isl_eval.specs.Causes.{AreDone}
 use Rattle.isl_eval.specs.Machine.{Answer, Step, Steps, nothing}
 use Rattle.isl_round_trip.specs.Written.{IsSet, IsMap, IsSpaceOf, IsOfKind, IsUniform}

@@ -33,14 +33,14 @@ use Rattle.isl_operators.specs.Operations.{OperatorHas}
 use Rattle.isl_kinds.specs.Lines.{joined, prefixed}
 use Rattle.isl_kinds.specs.Typed.{TypeView, by_two, declared_in, joined_names, kind_of_pieces, kind_of_image}
 use Rattle.isl_kinds.specs.Typed.{kind_of, kind_in, kind_past_links, kind_past_postfixes, kind_past}
-use Rattle.isl_values.specs.declared.list.ListPart.{ListPart}
-use Rattle.isl_values.specs.declared.list.ListPart.TheVariants.{First}
+use Rattle.isl_state.specs.declared.list.ListPart.{ListPart}
+use Rattle.isl_state.specs.declared.list.ListPart.TheVariants.{First}
 use Rattle.isl_values.specs.Live.{IsSampleAt}
 use Rattle.isl_values.specs.State.{Kept, StateView, kept_of, scope_of, type_of, value_at}
 use Rattle.isl_values.specs.Worked.{part_taken}
 use Rattle.isl_values.specs.Selection.{KeptHas, PostfixHas, SelectsAt, SelectsIn, SelectsPastLinks, SelectsPastPostfixes}
 use Rattle.isl_values.specs.Selection.{IsContentOf, IsGistOfTwo, IsSelected, IsSelectedAt, IsSelectedIn, IsTogetherOf, context_of}
-use Rattle.isl_values.proofs.StateLaws.{bound_at}
+use Rattle.isl_state.proofs.StateLaws.{bound_at}
 use Rattle.isl_values.proofs.PartLaws.{all_left, all_right}
 use Rattle.isl_eval.proofs.LiteralLaws.{IsSpelled}
 use Rattle.isl_round_trip.specs.Written.{IsSet, IsMap, IsUniform, IsSpaceOf, IsOfKind}

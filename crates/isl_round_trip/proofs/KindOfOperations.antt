@@ -18,10 +18,10 @@ use Rattle.isl_expr.specs.declared.tree.Binary.TheVariants as b
 use Rattle.isl_expr.specs.declared.tree.Prefix.{Prefix}
 use Rattle.isl_expr.specs.declared.tree.Prefix.TheVariants as p
 use Rattle.isl_operators.specs.Operations.{OperatorHas, OrderedHas, WordHas, ApplicationHas}
-use Rattle.isl_values.specs.declared.list.ListPart.{ListPart}
-use Rattle.isl_values.specs.declared.list.ListPart.TheVariants.{First, Second}
+use Rattle.isl_state.specs.declared.list.ListPart.{ListPart}
+use Rattle.isl_state.specs.declared.list.ListPart.TheVariants.{First, Second}
 use Rattle.isl_values.specs.Worked.{PartHas}
-use Rattle.isl_flat.proofs.ViewLaws.{three_some}
+use Rattle.isl_flat_law.proofs.ViewLaws.{three_some}
 use Rattle.isl_kinds.specs.Lines.{joined, applied, prefixed, inverse, item, dependence, fits, is_kind, made}
 use Rattle.isl_kinds.specs.Typed.{by_two, by_three}
 use Rattle.isl_round_trip.specs.Written.{IsMap, IsSpaceOf}

@@ -33,16 +33,16 @@ use Rattle.isl_expr.specs.declared.tree.ValueKind.TheVariants.{List as Pair}
 use Rattle.isl_expr.specs.declared.tree.Expr as e
 use Rattle.isl_expr.specs.Expr.{literals_of, statement_literals}
 use Rattle.isl_space.specs.Limits.{most_leaves}
-use Rattle.isl_flat.proofs.SimpleLaws.{literals_kept}
+use Rattle.isl_flat_law.proofs.SimpleLaws.{literals_kept}
 use Rattle.isl_stmt.specs.StatementGrammar.{statement_grammar}
 use Rattle.isl_stmt.specs.Limits.{statement_is_within}
 use Rattle.isl_stmt.specs.Read.{NoStatement}
 use Rattle.isl_kinds.specs.Lines.{is_kind}
 use Rattle.isl_kinds.specs.Typed.{ScopeView, is_dollar, kind_of, kind_of_image, kind_of_pieces, declared_of, type_of_statement}
-use Rattle.isl_text.specs.declared.refusal.Refusal.{Refusal}
-use Rattle.isl_text.specs.declared.refusal.Refusal.TheVariants.{UnknownName, WrongKind, NoElement}
-use Rattle.isl_values.specs.declared.list.ListPart.{ListPart}
-use Rattle.isl_values.specs.declared.list.ListPart.TheVariants.{First, Second}
+use Rattle.isl_refusal.specs.declared.refusal.Refusal.{Refusal}
+use Rattle.isl_refusal.specs.declared.refusal.Refusal.TheVariants.{UnknownName, WrongKind, NoElement}
+use Rattle.isl_state.specs.declared.list.ListPart.{ListPart}
+use Rattle.isl_state.specs.declared.list.ListPart.TheVariants.{First, Second}
 use Rattle.isl_values.specs.State.{Kept, Moment, StateView, Binds, unbound, kept_of, scope_of, forgotten, value_at}
 use Rattle.isl_values.specs.Selection.{IsKeptOf, Keeps}
 use Rattle.isl_values.specs.Live.{IsLivePartOf, IsLiveUnder}
@@ -58,8 +58,8 @@ use Rattle.isl_eval.proofs.CauseLaws.{of_tokens, of_statement, one as one_spelle
 use Rattle.isl_token.proofs.LexLaws.{lexed}
 use Rattle.isl_eval.proofs.LiteralLaws.{IsSpelled, literals_spelled}
 use Rattle.isl_values.proofs.FlatLaws.{literal_written}
-use Rattle.isl_values.proofs.LiveLaws.{part_same}
-use Rattle.isl_values.proofs.ForgetLaws.{kept_of_dollar, kept_of_forgotten}
+use Rattle.isl_state.proofs.LiveLaws.{part_same}
+use Rattle.isl_state.proofs.ForgetLaws.{kept_of_dollar, kept_of_forgotten}
 use Rattle.isl_round_trip.specs.Tree.{printed_tree}
 use Rattle.isl_round_trip.specs.Written.{HasFewRemainders, IsOfKind}
 use Rattle.isl_round_trip.specs.RoundTrip.{IsWritableValue, ReadsAs}

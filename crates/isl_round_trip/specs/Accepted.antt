@@ -9,7 +9,7 @@ use Rattle.isl_token.specs.TokenView.{Token}
 use Rattle.isl_token.specs.Depth.{is_stacking_word}
 use Rattle.isl_token.specs.Lex.{tokens}
 use Rattle.isl_tree.specs.declared.tree.Literal.{Literal}
-use Rattle.isl_text.specs.declared.refusal.Refusal.{Refusal}
+use Rattle.isl_refusal.specs.declared.refusal.Refusal.{Refusal}
 use Rattle.isl_text.specs.Read.{Answers, ExactlyWhere}
 use Rattle.isl_round_trip.specs.Tree.{printed_tree}
 

@@ -12,7 +12,7 @@ use Rattle.isl_tree.specs.Literal.{LiteralHas}
 use Rattle.isl_expr.specs.declared.tree.Stmt.{Stmt}
 use Rattle.isl_expr.specs.declared.tree.Stmt.TheVariants.{Assume, Bind, Empty, Show}
 use Rattle.isl_expr.specs.declared.tree.Expr.TheVariants as e
-use Rattle.isl_values.specs.declared.list.ListPart.{ListPart}
+use Rattle.isl_state.specs.declared.list.ListPart.{ListPart}
 use Rattle.isl_values.specs.Live.{IsLivePartOf}
 use Rattle.isl_values.specs.State.{Kept, StateView, Moment, EachKept, value_at}
 use Rattle.isl_values.specs.Selection.{Keeps}

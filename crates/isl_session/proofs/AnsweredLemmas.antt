@@ -11,13 +11,13 @@ use Rattle.isl_meter.specs.Gauge.{Gauge}
 use Rattle.isl_words.specs.Options.{OptionsView}
 use Rattle.isl_values.specs.State.{Moment}
 use Rattle.isl_script.specs.Script.{statements, rest_of, readable, next_part, ends, IsBlank}
-use Rattle.isl_text.specs.declared.refusal.Refusal.{Refusal}
-use Rattle.isl_text.specs.declared.refusal.Refusal.TheVariants.{ReadFault, WriteFault}
+use Rattle.isl_refusal.specs.declared.refusal.Refusal.{Refusal}
+use Rattle.isl_refusal.specs.declared.refusal.Refusal.TheVariants.{ReadFault, WriteFault}
 use Rattle.isl_eval.specs.Causes.{Refuses}
 use Rattle.isl_eval.specs.Run.{started}
 use Rattle.isl_session.specs.declared.fault.Fault.{Fault}
 use Rattle.isl_space.specs.Limits.{most_script_bytes, most_statement_bytes}
-use Rattle.isl_session.specs.Place.{Place, at_words, in_statement, too_long, past_limit, at_end, at_read, at_write, anywhere, place_of}
+use Rattle.isl_refusal.specs.Refusal.{Place, at_words, in_statement, too_long, past_limit, at_end, at_read, at_write, anywhere, place_of}
 use Rattle.isl_session.specs.Outcome.{Outcome, EndsRun, RunOn, lines_from, text_of}
 use Rattle.isl_session.specs.View.{View, BreaksIn, Fed, IsMeterAt, Stopped, moment_of, opened}
 use Rattle.isl_session.specs.Status.{StatusView}

@@ -2,16 +2,16 @@
 use Rattle.std.proofs.Common.{◌≡◌, ℕ, ◌<◌, List, [], ◌∷◌, true, refl, sym, ◌∙◌, ap, subst, inl, inr, arith}
 use Rattle.isl_meter.specs.Gauge.{Gauge, IsKept}
 use Rattle.isl_script.specs.Script.{ends}
-use Rattle.isl_text.specs.declared.refusal.Refusal.{Refusal}
-use Rattle.isl_text.specs.declared.refusal.Refusal.TheVariants.{Overflow, Budget, NoMemory, NoMinimum, NotAssumed, NoValuation, TooWide}
-use Rattle.isl_text.specs.declared.refusal.Refusal.TheVariants.{Nested, SeveralTimes, TimeShape, Unbounded}
+use Rattle.isl_refusal.specs.declared.refusal.Refusal.{Refusal}
+use Rattle.isl_refusal.specs.declared.refusal.Refusal.TheVariants.{Overflow, Budget, NoMemory, NoMinimum, NotAssumed, NoValuation, TooWide}
+use Rattle.isl_refusal.specs.declared.refusal.Refusal.TheVariants.{Nested, SeveralTimes, TimeShape, Unbounded}
 use Rattle.isl_values.specs.State.{Moment, StateView}
 use Rattle.isl_eval.specs.Causes as c
 use Rattle.isl_eval.specs.Causes.{Cause, FirstGives, Refuses, causes, refusal_of}
 use Rattle.isl_eval.specs.Machine.{Answer}
 use Rattle.isl_eval.specs.Run.{Answers, started}
 use Rattle.isl_space.specs.Limits.{most_script_bytes}
-use Rattle.isl_session.specs.Place.{Place, in_statement, place_of}
+use Rattle.isl_refusal.specs.Refusal.{Place, in_statement, place_of}
 use Rattle.isl_session.specs.View.{View, BreaksIn, IsMeterAt, IsRefusedAt, moment_of}
 
 -- the causes of a statement's bytes come about where the statement ends

@@ -9,10 +9,10 @@ use Rattle.isl_math.proofs.ListLaws.{All-parts}
 use Rattle.isl_meter.specs.Gauge.{Gauge}
 use Rattle.isl_script.specs.Script.{statements, rest_of, next_part}
 use Rattle.isl_script.proofs.ScriptLaws.{next_part-long, rest-append, statements-append}
-use Rattle.isl_text.specs.declared.refusal.Refusal.{Refusal}
-use Rattle.isl_text.specs.declared.refusal.Refusal.TheVariants.{Usage, TooLong, Unfinished, Overflow, Budget, ReadFault, WriteFault}
-use Rattle.isl_text.specs.declared.refusal.Refusal.TheVariants.{NoMemory, NoMinimum, NotAssumed, NoValuation, ScriptTooLong, TooWide}
-use Rattle.isl_text.specs.declared.refusal.Refusal.TheVariants.{Nested, SeveralTimes, TimeShape, Unbounded}
+use Rattle.isl_refusal.specs.declared.refusal.Refusal.{Refusal}
+use Rattle.isl_refusal.specs.declared.refusal.Refusal.TheVariants.{Usage, TooLong, Unfinished, Overflow, Budget, ReadFault, WriteFault}
+use Rattle.isl_refusal.specs.declared.refusal.Refusal.TheVariants.{NoMemory, NoMinimum, NotAssumed, NoValuation, ScriptTooLong, TooWide}
+use Rattle.isl_refusal.specs.declared.refusal.Refusal.TheVariants.{Nested, SeveralTimes, TimeShape, Unbounded}
 use Rattle.isl_values.specs.State.{Moment}
 use Rattle.isl_values.specs.Ends.{too_wide, no_minimum, nested, time_shapes, unbounded, several_times, no_valuation, not_assumed}
 use Rattle.isl_eval.specs.Causes.{Cause, FirstGives, IsThere, IsValid, NoneIs, Refuses, causes}
@@ -20,7 +20,7 @@ use Rattle.isl_eval.specs.Machine.{Answer}
 use Rattle.isl_eval.specs.Run.{started}
 use Rattle.isl_session.specs.declared.fault.Fault.{Fault}
 use Rattle.isl_space.specs.Limits.{most_script_bytes, most_statement_bytes}
-use Rattle.isl_session.specs.Place.{Place, at_words, in_statement, too_long, past_limit, at_end, at_read, at_write, anywhere, place_of}
+use Rattle.isl_refusal.specs.Refusal.{Place, at_words, in_statement, too_long, past_limit, at_end, at_read, at_write, anywhere, place_of}
 use Rattle.isl_session.specs.Outcome.{Outcome, answered, skipped, RunOn, skips_of}
 use Rattle.isl_session.specs.View.{View, AreShort, BreaksIn, IsMeterAt, Stopped, moment_of}
 use Rattle.isl_session.specs.Valid.{AreValid}

@@ -14,11 +14,11 @@ use Rattle.isl_space.specs.Limits.{most_script_bytes, most_statement_bytes}
 use Rattle.isl_session.specs.declared.counts.Counts.{Counts}
 use Rattle.isl_session.specs.declared.fault.Fault.{Fault}
 use Rattle.isl_session.specs.Counts.{counted}
-use Rattle.isl_text.specs.declared.refusal.Refusal.{Refusal}
+use Rattle.isl_refusal.specs.declared.refusal.Refusal.{Refusal}
 use Rattle.isl_meter.specs.Gauge.{Gauge}
 use Rattle.isl_words.specs.Options.{OptionsView}
 use Rattle.isl_values.specs.State.{Moment, StateView}
-use Rattle.isl_session.specs.Place.{Place, in_statement, place_of}
+use Rattle.isl_refusal.specs.Refusal.{Place, in_statement, place_of}
 use Rattle.isl_session.specs.Outcome.{Outcome, answered, skipped, Carries, RunOn, Skips, answers_of, faults_from, first_skip, skips_of}
 use Rattle.isl_session.specs.View.{View, BreaksIn, Fed, IsMeterAt, IsReady, IsRefusedAt, moment_of}
 use Rattle.isl_session.proofs.MeterLemmas.{carried_by}

@@ -3,9 +3,9 @@ use Rattle.std.proofs.Common.{◌≡◌, ℕ, ◌+◌, ◌<◌, ◌≤◌, List,
 use Rattle.std.proofs.lemmas.List.{append-nil, append_assoc}
 use Rattle.isl_words.specs.Options.{OptionsView}
 use Rattle.isl_script.specs.Script.{IsBlank}
-use Rattle.isl_text.specs.declared.refusal.Refusal.TheVariants.{Unfinished}
+use Rattle.isl_refusal.specs.declared.refusal.Refusal.TheVariants.{Unfinished}
 use Rattle.isl_session.specs.declared.fault.Fault.{Fault}
-use Rattle.isl_session.specs.Place.{Place, at_words, in_statement, too_long, past_limit, at_end, at_read, at_write, anywhere, place_of}
+use Rattle.isl_refusal.specs.Refusal.{Place, at_words, in_statement, too_long, past_limit, at_end, at_read, at_write, anywhere, place_of}
 use Rattle.isl_values.specs.State.{Moment}
 use Rattle.isl_session.specs.Outcome.{Outcome, answered, skipped, EndsRun, first_skip, text_of}
 use Rattle.isl_session.specs.View.{View, Fed, Stopped, BreaksIn, opened, passed}

@@ -1,11 +1,11 @@
 -- The texts of refusals are short.
 use Rattle.std.proofs.Common.{◌≤◌, length, arith}
-use Rattle.isl_text.specs.declared.refusal.Refusal.{Refusal}
-use Rattle.isl_text.specs.declared.refusal.Refusal.TheVariants.{Usage, Syntax, UnknownName, WrongKind, NoMinimum, Unbounded, SeveralTimes}
-use Rattle.isl_text.specs.declared.refusal.Refusal.TheVariants.{TimeShape, Nested, Parametric, TooWide, TooDeep, WideNumber, TooLong}
-use Rattle.isl_text.specs.declared.refusal.Refusal.TheVariants.{Unfinished, Overflow, Budget, ReadFault, WriteFault, NoMemory}
-use Rattle.isl_text.specs.declared.refusal.Refusal.TheVariants.{ScriptTooLong, NoElement, NoValuation, NotAssumed}
-use Rattle.isl_text.specs.Refusal.{text_of}
+use Rattle.isl_refusal.specs.declared.refusal.Refusal.{Refusal}
+use Rattle.isl_refusal.specs.declared.refusal.Refusal.TheVariants.{Usage, Syntax, UnknownName, WrongKind, NoMinimum, Unbounded, SeveralTimes}
+use Rattle.isl_refusal.specs.declared.refusal.Refusal.TheVariants.{TimeShape, Nested, Parametric, TooWide, TooDeep, WideNumber, TooLong}
+use Rattle.isl_refusal.specs.declared.refusal.Refusal.TheVariants.{Unfinished, Overflow, Budget, ReadFault, WriteFault, NoMemory}
+use Rattle.isl_refusal.specs.declared.refusal.Refusal.TheVariants.{ScriptTooLong, NoElement, NoValuation, NotAssumed}
+use Rattle.isl_refusal.specs.Refusal.{text_of}
 
 pub text_is_short : (refusal : Refusal) → length (text_of refusal) ≤ 88
 text_is_short Usage = omega arith

@@ -3,8 +3,8 @@ use Rattle.std.proofs.Common.{◌≡◌, ℕ, ◌+◌, ◌≤◌, Bool, cond, Li
 use Rattle.std.specs.List.{count_by}
 use Rattle.std.proofs.lemmas.List.Sums.{sum_by-cons}
 use Rattle.isl_meter.specs.Gauge.{Gauge, IsCharged}
-use Rattle.isl_text.specs.declared.refusal.Refusal.{Refusal}
-use Rattle.isl_text.specs.declared.refusal.Refusal.TheVariants as r
+use Rattle.isl_refusal.specs.declared.refusal.Refusal.{Refusal}
+use Rattle.isl_refusal.specs.declared.refusal.Refusal.TheVariants as r
 use Rattle.isl_values.specs.State.{Moment}
 use Rattle.isl_eval.specs.Causes.{Refuses}
 use Rattle.isl_eval.specs.Machine.{Answer}

@@ -6,7 +6,7 @@ use Rattle.isl_script.specs.Script.{statements, rest_of, with_ends, ends}
 use Rattle.isl_script.proofs.ScriptLaws.{is_cut, statements-append}
 use Rattle.isl_session.specs.declared.fault.Fault.{Fault}
 use Rattle.isl_space.specs.Limits.{most_statement_bytes}
-use Rattle.isl_session.specs.Place.{Place, at_words, in_statement, too_long, past_limit, at_end, at_read, at_write, anywhere, place_of}
+use Rattle.isl_refusal.specs.Refusal.{Place, at_words, in_statement, too_long, past_limit, at_end, at_read, at_write, anywhere, place_of}
 use Rattle.isl_eval.specs.Causes.{Refuses}
 use Rattle.isl_eval.specs.Run.{started}
 use Rattle.isl_session.specs.Outcome.{Outcome}

@@ -9,7 +9,7 @@ use Rattle.isl_meter.specs.Gauge.{Gauge}
 use Rattle.isl_space.specs.Limits.{most_statement_bytes}
 use Rattle.isl_script.specs.Script.{statements, rest_of}
 use Rattle.isl_script.proofs.ScriptLaws.{statements-append, rest-append}
-use Rattle.isl_text.specs.declared.refusal.Refusal.{Refusal}
+use Rattle.isl_refusal.specs.declared.refusal.Refusal.{Refusal}
 use Rattle.isl_values.specs.State.{Moment}
 use Rattle.isl_eval.specs.Machine.{Answer}
 use Rattle.isl_eval.specs.Run.{Answers, Run, started}

@@ -9,13 +9,13 @@ use Rattle.isl_math.specs.Count.{Rose}
 use Rattle.isl_meter.specs.Gauge.{Gauge}
 use Rattle.isl_space.specs.Limits.{most_statement_bytes}
 use Rattle.isl_words.specs.Options.{OptionsView}
-use Rattle.isl_text.specs.declared.refusal.Refusal.{Refusal}
-use Rattle.isl_text.specs.declared.refusal.Refusal.TheVariants.{Usage, Overflow, Budget, ReadFault, WriteFault}
+use Rattle.isl_refusal.specs.declared.refusal.Refusal.{Refusal}
+use Rattle.isl_refusal.specs.declared.refusal.Refusal.TheVariants.{Usage, Overflow, Budget, ReadFault, WriteFault}
 use Rattle.isl_values.specs.State.{Moment}
 use Rattle.isl_eval.specs.Causes.{Refuses}
 use Rattle.isl_eval.specs.Run.{started}
 use Rattle.isl_session.specs.Outcome.{Outcome, answered, skipped, Carries, RunOn, first_skip, is_overflow, is_spent}
-use Rattle.isl_session.specs.Place.{in_statement, place_of}
+use Rattle.isl_refusal.specs.Refusal.{in_statement, place_of}
 use Rattle.isl_session.specs.Run.{Answered, AreInFront, Ended, OfFirst, Outside, Progress, first_told}
 use Rattle.isl_session.specs.Status.{StatusView}
 use Rattle.isl_session.specs.StencilRun.{StencilAnswered, StencilEnded}

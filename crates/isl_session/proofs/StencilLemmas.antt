@@ -11,15 +11,15 @@ use Rattle.isl_script.proofs.ScriptLaws.{count-le-length}
 use Rattle.isl_space.specs.Limits.{most_script_bytes, most_statement_bytes}
 use Rattle.isl_stencil.specs.Stencil.{stencil, most_sizes}
 use Rattle.isl_stencil.proofs.CutLemmas.{stencil_blank, stencil_length}
-use Rattle.isl_text.specs.declared.refusal.Refusal.{Refusal}
-use Rattle.isl_text.specs.declared.refusal.Refusal.TheVariants.{WriteFault}
+use Rattle.isl_refusal.specs.declared.refusal.Refusal.{Refusal}
+use Rattle.isl_refusal.specs.declared.refusal.Refusal.TheVariants.{WriteFault}
 use Rattle.isl_values.specs.State.{Moment}
 use Rattle.isl_eval.specs.Causes.{Refuses}
 use Rattle.isl_eval.specs.Run.{started}
 use Rattle.isl_session.specs.declared.counts.Counts.{Counts}
 use Rattle.isl_session.specs.Outcome.{Outcome, answered, skipped, RunOn, first_skip, lines_from, skips_of}
 use Rattle.isl_session.specs.Lines.{fault_line, summary_line}
-use Rattle.isl_session.specs.Place.{Place, at_words, in_statement, too_long, past_limit, at_end, at_read, at_write, anywhere, place_of}
+use Rattle.isl_refusal.specs.Refusal.{Place, at_words, in_statement, too_long, past_limit, at_end, at_read, at_write, anywhere, place_of}
 use Rattle.isl_session.specs.Run.{Answered, AreInFront, Ended, HasCause, IsRefusedNext, OfFirst, Outside, Progress, Tells, first_told}
 use Rattle.isl_session.specs.Run.{number_at, outside}
 use Rattle.isl_session.specs.Status.{StatusView}

@@ -1,7 +1,6 @@
 pub mod Counts
 pub mod Lines
 pub mod Outcome
-pub mod Place
 pub mod Run
 pub mod Session
 pub mod Status
@@ -15,4 +14,4 @@ pub use Rattle.isl_io.specs.Outside
 pub use Rattle.isl_script.specs.Script
 pub use Rattle.isl_space.specs.Limits
 pub use Rattle.isl_stencil.specs.Stencil
-pub use Rattle.isl_text.specs.Refusal
+pub use Rattle.isl_refusal.specs.Refusal

@@ -3,9 +3,9 @@ use Rattle.std.specs.Prelude.{ℕ, List, [], ◌∷◌, ◌++◌, codes}
 use Rattle.std.specs.Fmt.{decimal}
 use Rattle.isl_words.specs.declared.fault.WordsFault.{WordsFault}
 use Rattle.isl_words.specs.declared.fault.WordsFault.TheVariants as words
-use Rattle.isl_text.specs.declared.refusal.Refusal.{Refusal}
-use Rattle.isl_text.specs.declared.refusal.Refusal.TheVariants.{NoMemory, Usage}
-use Rattle.isl_text.specs.Refusal.{text_of}
+use Rattle.isl_refusal.specs.declared.refusal.Refusal.{Refusal}
+use Rattle.isl_refusal.specs.declared.refusal.Refusal.TheVariants.{NoMemory, Usage}
+use Rattle.isl_refusal.specs.Refusal.{text_of}
 use Rattle.isl_session.specs.declared.counts.Counts.{Counts}
 use Rattle.isl_session.specs.declared.fault.Fault.{Fault}
 

@@ -4,15 +4,15 @@ use Rattle.std.specs.List.{concat, filter_map}
 use Rattle.isl_math.specs.Count.{last_count}
 use Rattle.isl_meter.specs.Gauge.{Gauge, IsKept}
 use Rattle.isl_words.specs.Options.{OptionsView}
-use Rattle.isl_text.specs.declared.refusal.Refusal.{Refusal}
-use Rattle.isl_text.specs.declared.refusal.Refusal.TheVariants as r
+use Rattle.isl_refusal.specs.declared.refusal.Refusal.{Refusal}
+use Rattle.isl_refusal.specs.declared.refusal.Refusal.TheVariants as r
 use Rattle.isl_values.specs.State.{Moment}
 use Rattle.isl_eval.specs.Causes.{Refuses}
 use Rattle.isl_eval.specs.Machine.{Answer}
 use Rattle.isl_eval.specs.Run.{Answers, started}
 use Rattle.isl_session.specs.declared.fault.Fault.{Fault}
 use Rattle.isl_session.specs.Lines.{fault_line}
-use Rattle.isl_session.specs.Place.{in_statement, place_of}
+use Rattle.isl_refusal.specs.Refusal.{in_statement, place_of}
 
 -- a statement is answered, or it is refused and skipped
 pub data Outcome : Type 0 where

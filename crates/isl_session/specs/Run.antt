@@ -5,15 +5,15 @@ use Rattle.std.specs.Io.KnownBytes.{Appends, Consumes, IsAtEnd}
 use Rattle.isl_math.specs.Count.{Rose}
 use Rattle.isl_meter.specs.Gauge.{Gauge}
 use Rattle.isl_script.specs.Script.{statements, rest_of, readable, next_part, IsBlank}
-use Rattle.isl_text.specs.declared.refusal.Refusal.{Refusal}
-use Rattle.isl_text.specs.declared.refusal.Refusal.TheVariants.{ReadFault, WriteFault}
+use Rattle.isl_refusal.specs.declared.refusal.Refusal.{Refusal}
+use Rattle.isl_refusal.specs.declared.refusal.Refusal.TheVariants.{ReadFault, WriteFault}
 use Rattle.isl_values.specs.State.{StateView, Moment}
 use Rattle.isl_eval.specs.Causes.{Refuses}
 use Rattle.isl_eval.specs.Machine.{Answer}
 use Rattle.isl_eval.specs.Run.{started}
 use Rattle.isl_session.specs.declared.fault.Fault.{Fault}
 use Rattle.isl_space.specs.Limits.{most_script_bytes, most_statement_bytes}
-use Rattle.isl_session.specs.Place.{Place, at_words, in_statement, too_long, past_limit, at_end, at_read, at_write, anywhere, place_of}
+use Rattle.isl_refusal.specs.Refusal.{Place, at_words, in_statement, too_long, past_limit, at_end, at_read, at_write, anywhere, place_of}
 use Rattle.isl_session.specs.Outcome.{Outcome, answered, Carries, EndsRun, RunOn, first_skip, lines_from, text_of}
 use Rattle.isl_session.specs.View.{View, Fed, IsMeterAt, Stopped, passed}
 use Rattle.isl_session.specs.Status.{StatusView}

@@ -2,8 +2,8 @@
 use Rattle.std.specs.Prelude.{◌≡◌, ◌⊎◌, ℕ, ◌+◌, ◌≤◌, List, [], ◌∷◌, ◌++◌, length, Option, Some, None, Result, IfErr}
 use Rattle.isl_math.specs.Count.{Rose}
 use Rattle.isl_script.specs.Script.{statements, rest_of, IsBlank}
-use Rattle.isl_text.specs.declared.refusal.Refusal.{Refusal}
-use Rattle.isl_text.specs.declared.refusal.Refusal.TheVariants.{NoMemory}
+use Rattle.isl_refusal.specs.declared.refusal.Refusal.{Refusal}
+use Rattle.isl_refusal.specs.declared.refusal.Refusal.TheVariants.{NoMemory}
 use Rattle.isl_values.specs.State.{Moment}
 use Rattle.isl_eval.specs.Causes.{IsValid}
 use Rattle.isl_eval.specs.Run.{started}

@@ -4,8 +4,8 @@ use Rattle.std.specs.Prelude.{MatchResult}
 use Rattle.std.specs.Option.{option_or}
 use Rattle.isl_meter.specs.Gauge.{Gauge, IsCharged, IsKept}
 use Rattle.isl_script.specs.Script.{statements, rest_of, ends, IsBlank, IsOpen}
-use Rattle.isl_text.specs.declared.refusal.Refusal.{Refusal}
-use Rattle.isl_text.specs.declared.refusal.Refusal.TheVariants.{Unfinished}
+use Rattle.isl_refusal.specs.declared.refusal.Refusal.{Refusal}
+use Rattle.isl_refusal.specs.declared.refusal.Refusal.TheVariants.{Unfinished}
 use Rattle.isl_values.specs.State.{StateView, Moment, unbound}
 use Rattle.isl_eval.specs.Causes.{Refuses}
 use Rattle.isl_eval.specs.Run.{started}
@@ -14,7 +14,7 @@ use Rattle.isl_session.specs.declared.fault.Fault.{Fault}
 use Rattle.isl_space.specs.Limits.{most_script_bytes, most_statement_bytes}
 use Rattle.isl_session.specs.Counts.{counted, none}
 use Rattle.isl_session.specs.Outcome.{Outcome, Carries, EndsRun, RunOn, answers_of, faults_from, first_skip, skips_of, text_of}
-use Rattle.isl_session.specs.Place.{Place, at_words, in_statement, too_long, past_limit, at_end, at_read, at_write, anywhere, place_of}
+use Rattle.isl_refusal.specs.Refusal.{Place, at_words, in_statement, too_long, past_limit, at_end, at_read, at_write, anywhere, place_of}
 use Rattle.isl_words.specs.Options.{OptionsView}
 
 -- the meter of a session that begins with these options

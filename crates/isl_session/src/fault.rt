@@ -1,6 +1,6 @@
 //! What a refused session answers.
 
-use isl_text::refusal::Refusal;
+use isl_refusal::Refusal;
 
 /// A refusal, and the number of the statement that it speaks of, counted from 1.
 #[derive(Clone, Copy, PartialEq, Eq)]

@@ -5,7 +5,7 @@ ghost use Rattle.isl_math.specs.Count.{Rose};
 ghost use Rattle.isl_meter.specs.Gauge.{Gauge};
 ghost use Rattle.isl_script.specs.Script.{IsBlank, rest_of, statements};
 ghost use Rattle.isl_space.specs.Limits.{most_script_bytes};
-ghost use Rattle.isl_text.specs.declared.refusal.Refusal.{Refusal};
+ghost use Rattle.isl_refusal.specs.declared.refusal.Refusal.{Refusal};
 ghost use Rattle.isl_values.specs.State.{Moment};
 ghost use Rattle.isl_eval.specs.Causes.{IsValid};
 ghost use Rattle.isl_eval.specs.Run.{Run, started};

@@ -14,7 +14,7 @@ mod write;
 
 pub use counts::Counts;
 pub use fault::Fault;
-pub use isl_text::refusal::Refusal;
+pub use isl_refusal::Refusal;
 pub use isl_words::{Options, WordsFault};
 pub use law::{answered_is_a_run, skipping_goes_on};
 pub use program::{refuse_words, run};

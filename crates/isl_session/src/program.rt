@@ -11,7 +11,7 @@ ghost use Rattle.isl_space.specs.Limits.{most_script_bytes};
 ghost use Rattle.isl_script.specs.Script.{IsBlank};
 ghost use Rattle.isl_words.specs.Options.{OptionsView};
 ghost use Rattle.isl_words.specs.Taken.{AreTaken};
-ghost use Rattle.isl_session.specs.Place.{place_of};
+ghost use Rattle.isl_refusal.specs.Refusal.{place_of};
 ghost use Rattle.isl_session.specs.View.{Fed, IsReady, begun, moment_of, opened, passed};
 ghost use Rattle.isl_session.specs.Lines.{fault_line, usage_line, words_line, words_refusal};
 ghost use Rattle.isl_session.specs.Outcome.{Outcome, lines_from, text_of};
@@ -25,8 +25,8 @@ use crate::write::{tell_all, write_all, write_fault, write_usage};
 use crate::{Fault, Session, Status};
 use isl_io::{Failed, Sink, Source};
 use isl_meter::Meter;
+use isl_refusal::Refusal;
 use isl_space::limits::{SCRIPT_MAX, STATEMENT_MAX};
-use isl_text::refusal::Refusal;
 use isl_words::{WordsFault, read_words};
 use std::alloc::{AllocError, Global};
 

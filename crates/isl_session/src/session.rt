@@ -9,17 +9,17 @@ ghost use Rattle.isl_script.specs.Script.{ends};
 ghost use Rattle.isl_session.specs.Valid.{AnswersValid};
 ghost use Rattle.isl_session.specs.Counts.{AreCounts};
 ghost use Rattle.isl_session.specs.Outcome.{Outcome, EndsRun, faults_from, skips_of, text_of};
-ghost use Rattle.isl_session.specs.Place.{in_statement, place_of};
+ghost use Rattle.isl_refusal.specs.Refusal.{in_statement, place_of};
 ghost use Rattle.isl_session.specs.View.{Fed, Feeds, FeedsOn, Finishes, HasRoomFor, IsReady, IsRefusedAt, Stopped};
 ghost use Rattle.isl_session.specs.View.{begun, fresh, passed};
 
-use crate::skips::{is_of_statement, room_for_fault};
+use crate::skips::room_for_fault;
 use crate::{Counts, Fault, Options};
 use isl_eval::answer;
 use isl_meter::Meter;
+use isl_refusal::Refusal;
 use isl_script::Cutter;
 use isl_space::limits::{SCRIPT_MAX, STATEMENT_MAX};
-use isl_text::refusal::Refusal;
 use isl_values::State;
 use std::alloc::{AllocError, Global};
 use std::marker::Model;
@@ -153,7 +153,7 @@ impl Session {
         ensures { MatchBool result ((self.now.options.keep_going ≡ true) × (place_of refusal ≡ in_statement))
             (EndsRun self.now.options refusal) }
     {
-        self.options.keep_going() && is_of_statement(refusal)
+        self.options.keep_going() && refusal.is_of_statement()
     }
 
     // Passes over the statement that this byte ends, which was refused, and tells its number and why.

@@ -5,7 +5,7 @@ ghost use Rattle.std.specs.Option.{option_copied};
 ghost use Rattle.isl_session.specs.Status.{exit_code};
 
 use isl_meter::Meter;
-use isl_text::refusal::Refusal;
+use isl_refusal::Refusal;
 use std::marker::Model;
 
 /// How a run ended: with no refusal, or with which one; and the session's meter as the run left it.

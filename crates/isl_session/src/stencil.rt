@@ -11,8 +11,8 @@ use crate::program::{refuse, run_session};
 use crate::write::write_summary;
 use crate::{Fault, Session, Status};
 use isl_io::{CleanSink, Failed, Sink};
+use isl_refusal::Refusal;
 use isl_stencil::Stencil;
-use isl_text::refusal::Refusal;
 use std::alloc::Global;
 
 // Answers the script of so many sizes, and drops the answers. How much was answered is written at its end, unless a statement was

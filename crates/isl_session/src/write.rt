@@ -9,7 +9,7 @@ ghost use Rattle.isl_session.specs.Lines.{fault_line, summary_line, usage_line};
 use crate::{Counts, Fault};
 use arrayvec::ArrayVec;
 use isl_io::{Failed, Sink};
-use isl_text::refusal::Refusal;
+use isl_refusal::Refusal;
 use itoa::Buffer;
 
 // Writes the whole text. Where a write fails, a front of it was written.

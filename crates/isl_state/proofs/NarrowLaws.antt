@@ -18,7 +18,7 @@ use Rattle.isl_state.specs.Live.{IsLivePartOf}
 use Rattle.isl_state.specs.State.{Kept, StateView, value_at, AreLeftOf, Fits, HasNumbersUpTo, NarrowingEnds}
 use Rattle.isl_state.specs.Stored.{IsPlainKept}
 use Rattle.isl_state.proofs.LiveLaws.{part_live, part_numbers, part_plain}
-use Rattle.isl_text.specs.declared.refusal.Refusal.{Refusal}
+use Rattle.isl_refusal.specs.declared.refusal.Refusal.{Refusal}
 use Rattle.isl_space.specs.Limits.{most_parameters}
 use Rattle.isl_space.specs.Names.{joined}
 use Rattle.isl_space.specs.Valuation.{Valuation}

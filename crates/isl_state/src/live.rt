@@ -12,7 +12,7 @@ ghost use Rattle.isl_state.specs.State.{HasNumbersUpTo};
 use isl_assumed::{Assumed, live};
 use isl_meter::Meter;
 use isl_outcome::refusal_of;
-use isl_text::refusal::Refusal;
+use isl_refusal::Refusal;
 use isl_union::Value;
 use std::alloc::Global;
 use std::rc::Rc;

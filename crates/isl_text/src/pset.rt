@@ -31,7 +31,7 @@ fn condition(alloc: Global, tokens: &mut Cursor<'_>, depth: usize) -> Result<Pie
 }
 
 // Reads formulas whose brackets are nested less than `depth` deep.
-#[derive(Clone, Copy, Debug)]
+#[derive(Clone, Copy)]
 struct ConditionReader {
     depth: usize,
 }

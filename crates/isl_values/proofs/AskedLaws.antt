@@ -19,7 +19,7 @@ use Rattle.isl_operators.specs.Orders.{ComesAfter, ComesBefore}
 use Rattle.isl_operators.specs.Operations.{WordHas, WordMisses}
 use Rattle.isl_operators.specs.Formed.{FormsWide, WordForms}
 use Rattle.isl_operators.specs.Made.{word_works, IsWordOf}
-use Rattle.isl_text.specs.declared.refusal.Refusal.{Refusal}
+use Rattle.isl_refusal.specs.declared.refusal.Refusal.{Refusal}
 use Rattle.isl_values.specs.Live.{narrows, IsLiveOf, IsLivePart, IsLiveUnder, IsUnderOf}
 use Rattle.isl_state.specs.State.{AtAssumed, StateView}
 use Rattle.isl_values.specs.Worked.{looks, IsAskedOf, IsWordedOf}

@@ -10,7 +10,7 @@ use Rattle.isl_piece.specs.Piece.{PieceView}
 use Rattle.isl_union.specs.KeptValue.{KeptPiece, KeptValue, Has, HasNoDefinitions, IsKeptValue}
 use Rattle.isl_union.specs.Piece.{kept_piece}
 use Rattle.isl_union.proofs.FlatLaws.{flat_elements, flat_itself, flat_same}
-use Rattle.isl_text.specs.declared.refusal.Refusal.{Refusal}
+use Rattle.isl_refusal.specs.declared.refusal.Refusal.{Refusal}
 use Rattle.isl_tree.specs.declared.tree.Literal.{Literal}
 use Rattle.isl_tree.specs.Plain.{is_plain}
 use Rattle.isl_lower.specs.Value.{IsLowered}

@@ -15,7 +15,7 @@ use Rattle.isl_assumed.specs.Values.{IsDeadAt}
 use Rattle.isl_operators.specs.Formed.{AreIn, FormsWide, NoneAreIn, PairsWide}
 use Rattle.isl_relation.specs.Formed.{FormsAccess}
 use Rattle.isl_kinds.specs.Typed.{joined_names}
-use Rattle.isl_text.specs.declared.refusal.Refusal.{Refusal}
+use Rattle.isl_refusal.specs.declared.refusal.Refusal.{Refusal}
 use Rattle.isl_outcome.proofs.FirstLaws.{EndAlike, goes_alike, operation_alike, operation_cut}
 use Rattle.isl_state.specs.State.{AtAssumed, StateView}
 use Rattle.isl_state.proofs.LiveLaws.{part_elements, part_live, part_numbers, part_plain}

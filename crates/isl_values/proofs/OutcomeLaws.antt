@@ -11,8 +11,8 @@ use Rattle.isl_space.specs.Element.{Element}
 use Rattle.isl_union.specs.KeptValue.{KeptValue, Has, HasNoDefinitions, IsKeptValue}
 use Rattle.isl_union.specs.declared.fault.OpFault.{OpFault}
 use Rattle.isl_union.specs.declared.fault.OpFault.TheVariants as op_fault
-use Rattle.isl_text.specs.declared.refusal.Refusal.{Refusal}
-use Rattle.isl_text.specs.declared.refusal.Refusal.TheVariants.{NoMemory}
+use Rattle.isl_refusal.specs.declared.refusal.Refusal.{Refusal}
+use Rattle.isl_refusal.specs.declared.refusal.Refusal.TheVariants.{NoMemory}
 use Rattle.isl_operators.specs.declared.fault.WordFault.{WordFault}
 use Rattle.isl_operators.specs.declared.fault.WordFault.TheVariants as word_fault
 use Rattle.isl_operators.specs.Made.{IsWhyNone, IsWhyNoWord}

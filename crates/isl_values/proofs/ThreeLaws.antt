@@ -7,7 +7,7 @@ use Rattle.isl_meter.proofs.CutLemmas.{IsCharged_trans}
 use Rattle.isl_space.specs.Name.{Name}
 use Rattle.isl_space.specs.Valuation.{Valuation}
 use Rattle.isl_union.specs.KeptValue.{KeptValue, Has}
-use Rattle.isl_text.specs.declared.refusal.Refusal.{Refusal}
+use Rattle.isl_refusal.specs.declared.refusal.Refusal.{Refusal}
 use Rattle.isl_expr.specs.declared.tree.Expr.{Expr, Any, Last}
 use Rattle.isl_expr.specs.Expr.{literals_of}
 use Rattle.isl_expr.proofs.Literals.{literals_of-Any, literals_of-Last}

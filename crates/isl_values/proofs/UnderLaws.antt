@@ -27,7 +27,7 @@ use Rattle.isl_assumed.specs.declared.assumed.Assumed.{Assumed}
 use Rattle.isl_assumed.specs.declared.assumed.Assumed.TheVariants.{Nothing, Where}
 use Rattle.isl_assumed.specs.Assumed.{Assumes, AssumesSome, IsOver as IsOverNames, names_of}
 use Rattle.isl_assumed.proofs.RegionLaws.{values_same}
-use Rattle.isl_text.specs.declared.refusal.Refusal.{Refusal}
+use Rattle.isl_refusal.specs.declared.refusal.Refusal.{Refusal}
 use Rattle.isl_values.specs.Live.{narrows, IsOperandIn, IsOperandOf, IsUnderOf}
 use Rattle.isl_state.specs.State.{StateView, HasNumbersUpTo}
 use Rattle.isl_values.specs.Ends.{CutAlone, CutUnder, OperationEnds}

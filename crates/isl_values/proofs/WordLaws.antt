@@ -4,7 +4,7 @@ use Rattle.std.specs.Prelude.{unsigned_abs}
 use Rattle.isl_meter.specs.Gauge.{Gauge, limit_of}
 use Rattle.isl_space.specs.Name.{Name}
 use Rattle.isl_union.specs.KeptValue.{KeptValue, Has, HasNoDefinitions}
-use Rattle.isl_text.specs.declared.refusal.Refusal.{Refusal}
+use Rattle.isl_refusal.specs.declared.refusal.Refusal.{Refusal}
 use Rattle.isl_expr.specs.declared.tree.Prefix.{Prefix as Word}
 use Rattle.isl_expr.specs.declared.tree.Expr.{Expr, Prefix}
 use Rattle.isl_operators.specs.Operations.{WordHas, is_operation_word}

@@ -5,7 +5,7 @@ ghost use Rattle.isl_values.specs.Made.{refusal_of_fault, refusal_of_word_fault}
 
 use isl_operators::WordFault;
 use isl_outcome::refusal_of;
-use isl_text::refusal::Refusal;
+use isl_refusal::Refusal;
 use isl_union::{OpFault, Value};
 use std::alloc::Global;
 use std::rc::Rc;

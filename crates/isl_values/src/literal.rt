@@ -14,8 +14,8 @@ ghost use Rattle.isl_values.specs.Made.{IsMadeOf, IsValueOf, IsPaid, IsWhyUnmade
 use isl_lower::lower;
 use isl_meter::Meter;
 use isl_outcome::refusal_of;
+use isl_refusal::Refusal;
 use isl_state::{State, live_part};
-use isl_text::refusal::Refusal;
 use isl_tree::tree::Literal;
 use isl_union::Value;
 use std::alloc::Global;

@@ -1,7 +1,7 @@
 use Rattle.isl_meter.specs.Gauge.{limit_of}
 use Rattle.isl_values.specs.Ends.{Ends}
 use Rattle.isl_values.specs.State.{scope_of}
-use Rattle.isl_values.specs.declared.list.ListPart.TheVariants.{First}
+use Rattle.isl_state.specs.declared.list.ListPart.TheVariants.{First}
 use Rattle.isl_eval.proofs.ShownLaws.{outcome_of, selected_kept, selected_sound}
 use Rattle.isl_eval.proofs.shown.selected.Goals as goal
 

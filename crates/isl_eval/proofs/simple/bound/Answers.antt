@@ -4,9 +4,9 @@ use Rattle.isl_values.specs.Ends.{Ends}
 use Rattle.isl_values.specs.State.{scope_of}
 use Rattle.isl_eval.specs.Evaluated.{works}
 use Rattle.isl_eval.proofs.TestLaws.{memory_unworked}
-use Rattle.isl_values.proofs.ForgetLaws.{forgotten_dollar, settled_bound}
+use Rattle.isl_state.proofs.ForgetLaws.{forgotten_dollar, settled_bound}
 use Rattle.isl_kinds.specs.Typed.{is_dollar}
-use Rattle.isl_values.proofs.StateLaws.{fits_bound}
+use Rattle.isl_state.proofs.StateLaws.{fits_bound}
 use Rattle.isl_eval.proofs.StepLaws.{kept_live, kept_numbers}
 use Rattle.isl_eval.proofs.ShownLaws.{bind_kind, bind_makeable, bind_paid, bind_type, bound_kept, kept_type, moment_of}
 use Rattle.isl_eval.proofs.ShownLaws.{no_options}

@@ -5,7 +5,7 @@ use Rattle.std.proofs.lemmas.List.{append-nil, length-append, length-take}
 use Rattle.isl_math.specs.Count.{Rose}
 use Rattle.isl_math.proofs.CountLaws.{rose_since}
 use Rattle.isl_session.specs.Outcome.{text_of}
-use Rattle.isl_session.specs.Place.{place_of}
+use Rattle.isl_refusal.specs.Refusal.{place_of}
 use Rattle.isl_session.specs.Run.{Halts}
 use Rattle.isl_session.specs.View.{passed}
 use Rattle.isl_session.proofs.FedLemmas.{ready_fed, fed_ready}

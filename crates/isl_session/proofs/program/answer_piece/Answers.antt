@@ -8,7 +8,7 @@ use Rattle.isl_math.proofs.CountLaws.{rose_since}
 use Rattle.isl_session.specs.declared.fault.Fault.{Fault}
 use Rattle.isl_session.specs.Lines.{fault_line}
 use Rattle.isl_session.specs.Outcome.{Outcome, faults_from, lines_from, text_of}
-use Rattle.isl_session.specs.Place.{place_of}
+use Rattle.isl_refusal.specs.Refusal.{place_of}
 use Rattle.isl_session.specs.View.{View, Fed, Stopped, passed}
 use Rattle.isl_session.specs.Run.{Halts, Told}
 use Rattle.isl_session.proofs.KnownLemmas.{take_join, text_added}

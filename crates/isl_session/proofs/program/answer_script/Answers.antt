@@ -3,9 +3,9 @@ use Rattle.std.specs.Option.{option_or}
 use Rattle.std.specs.Io.KnownBytes.{IsAtEnd}
 use Rattle.isl_math.specs.Count.{Rose}
 use Rattle.isl_space.specs.Limits.{most_script_bytes}
-use Rattle.isl_text.specs.declared.refusal.Refusal.{Refusal}
+use Rattle.isl_refusal.specs.declared.refusal.Refusal.{Refusal}
 use Rattle.isl_session.specs.Outcome.{first_skip, lines_from, text_of}
-use Rattle.isl_session.specs.Place.{place_of}
+use Rattle.isl_refusal.specs.Refusal.{place_of}
 use Rattle.isl_session.specs.View.{View, Fed, moment_of, passed}
 use Rattle.isl_session.specs.Run.{Halts, Told, outside}
 use Rattle.isl_session.proofs.AheadLemmas.{script_of}

@@ -3,7 +3,7 @@ use Rattle.std.specs.Prelude.{IfErr, MatchResult}
 use Rattle.std.specs.Io.KnownBytes.{IsAtEnd}
 use Rattle.isl_math.specs.Count.{Rose}
 use Rattle.isl_session.specs.Outcome.{text_of}
-use Rattle.isl_session.specs.Place.{place_of}
+use Rattle.isl_refusal.specs.Refusal.{place_of}
 use Rattle.isl_session.proofs.FedLemmas.{at_none}
 use Rattle.isl_session.proofs.HaltLemmas.{halts_wider, halts_finished}
 use Rattle.isl_session.proofs.program.run_session.Goals as goal

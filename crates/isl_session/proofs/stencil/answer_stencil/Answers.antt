@@ -6,10 +6,10 @@ use Rattle.std.proofs.KnownBytes.{Appends-nil}
 use Rattle.isl_math.specs.Count.{Rose}
 use Rattle.isl_space.specs.Limits.{most_script_bytes}
 use Rattle.isl_stencil.specs.Stencil.{stencil}
-use Rattle.isl_text.specs.declared.refusal.Refusal.{Refusal}
-use Rattle.isl_text.specs.declared.refusal.Refusal.TheVariants.{WriteFault}
+use Rattle.isl_refusal.specs.declared.refusal.Refusal.{Refusal}
+use Rattle.isl_refusal.specs.declared.refusal.Refusal.TheVariants.{WriteFault}
 use Rattle.isl_session.specs.Outcome.{first_skip, lines_from}
-use Rattle.isl_session.specs.Place.{place_of}
+use Rattle.isl_refusal.specs.Refusal.{place_of}
 use Rattle.isl_session.specs.View.{View, Fed, moment_of, opened, passed}
 use Rattle.isl_session.specs.Run.{Halts, Told, outside}
 use Rattle.isl_session.proofs.AnsweredLemmas.{answered_up_to, status_meter, status_refusal}

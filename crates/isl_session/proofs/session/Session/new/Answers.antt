@@ -4,7 +4,7 @@ use Rattle.isl_script.specs.Script.{IsOpen}
 use Rattle.isl_script.specs.Cutter.{IsAt}
 use Rattle.isl_script.proofs.ScriptLaws.{open_nil}
 use Rattle.isl_values.specs.State.{StateView, Fits, IsSettled}
-use Rattle.isl_values.proofs.StateLaws.{fits_unbound}
+use Rattle.isl_state.proofs.StateLaws.{fits_unbound}
 use Rattle.isl_session.proofs.SoundLemmas.{settled_unbound}
 use Rattle.isl_session.specs.declared.counts.Counts.{Counts}
 use Rattle.isl_session.specs.Counts.{AreCounts}

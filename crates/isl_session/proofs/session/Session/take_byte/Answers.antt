@@ -4,7 +4,7 @@ use Rattle.std.specs.Prelude.{IfErr}
 use Rattle.std.proofs.lemmas.List.{append-nil, length_push}
 use Rattle.isl_meter.specs.Gauge.{Gauge, IsCharged, IsKept, limit_of}
 use Rattle.isl_meter.proofs.CutLemmas.{IsCharged_refl, IsKept-charged}
-use Rattle.isl_text.specs.declared.refusal.Refusal.TheVariants.{NoMemory}
+use Rattle.isl_refusal.specs.declared.refusal.Refusal.TheVariants.{NoMemory}
 use Rattle.isl_script.specs.Script.{ends, IsOpen, Place}
 use Rattle.isl_script.specs.Cutter.{IsAt}
 use Rattle.isl_script.proofs.ScriptLaws.{depth-le-length, open_nil, open_push}

@@ -2,9 +2,9 @@ use Rattle.std.proofs.Common.{◌≡◌, Bool, if◌then◌else◌, ◌+◌, ◌
 use Rattle.std.proofs.Common.{subst, refl}
 use Rattle.std.proofs.lemmas.List.{append-nil, take_all, take_more, drop_more, take-append-drop}
 use Rattle.isl_meter.specs.Gauge.{Gauge}
-use Rattle.isl_text.specs.declared.refusal.Refusal.{Refusal}
+use Rattle.isl_refusal.specs.declared.refusal.Refusal.{Refusal}
 use Rattle.isl_session.specs.declared.fault.Fault.{Fault}
-use Rattle.isl_session.specs.Place.{place_of}
+use Rattle.isl_refusal.specs.Refusal.{place_of}
 use Rattle.isl_words.specs.Options.{OptionsView}
 use Rattle.isl_session.specs.Outcome.{Outcome, skipped, EndsRun, faults_from, skips_of, text_of}
 use Rattle.isl_session.specs.View.{View, Fed, BreaksIn, IsMeterAt, passed}
