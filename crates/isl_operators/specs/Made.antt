@@ -1,6 +1,6 @@
 -- public: which values operations make, what that does to the meter, and why none is made. (the iscc chapter of the barvinok manual)
 use Rattle.std.specs.Prelude.{◌≡◌, ◌↔◌, ◌⊎◌, Bool, true, false, List}
-use Rattle.isl_meter.specs.Gauge.{Gauge, IsCharged, IsCutBy}
+use Rattle.isl_meter.specs.Gauge.{Gauge, IsCutBy}
 use Rattle.isl_meter.specs.declared.Cut.{Cut}
 use Rattle.isl_meter.specs.declared.Cut.TheVariants.{NoMemory}
 use Rattle.isl_space.specs.Name.{Name}
