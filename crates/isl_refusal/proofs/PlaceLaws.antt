@@ -1,6 +1,7 @@
 -- What the test on places tells.
-use Rattle.std.proofs.Common.{◌≡◌, ◌≢◌, Bool, refl}
+use Rattle.std.proofs.Common.{◌≡◌, ◌≢◌, Bool, true, false, refl, sym, ◌∙◌}
 use Rattle.std.specs.Prelude.{MatchBool}
+use Rattle.std.proofs.lemmas.Bool.{false≢true}
 use Rattle.isl_refusal.specs.Refusal.{Place, at_words, in_statement, too_long, past_limit, at_end, at_read, at_write, anywhere}
 use Rattle.isl_refusal.specs.Refusal.{is_in_statement}
 
