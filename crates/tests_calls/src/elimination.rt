@@ -151,21 +151,35 @@ fn gone_of(alloc: Global, case: &str, columns: usize) -> Result<Vec<usize>, Allo
     Ok(gone)
 }
 
+// Whether the systems that are left have the definitions and hold at the points that are wanted, and the given one is decided.
+fn is_found(
+    alloc: Global,
+    case: &str,
+    given: &System,
+    gone: &[usize],
+    left: &Vec<System>,
+    meter: &Meter,
+) -> Result<bool, Cut> {
+    let columns = given.free();
+    Ok(
+        have_kept(alloc, case, columns.saturating_sub(gone.len()), left, meter)?
+            && are_found(alloc, case, given, gone, left)?
+            && is_decided(alloc, case, columns)?,
+    )
+}
+
+/// Whether what is left of the system of a case is what is wanted, and costs what is wanted. Systems over more than three columns are not
+/// searched.
 pub(crate) fn is_eliminated(alloc: Global, case: &str, columns: usize) -> Result<bool, Cut> {
     let mut meter = Meter::new(127, 1_000_000);
     let gone = gone_of(alloc, case, columns)?;
-    let free = columns.saturating_sub(gone.len());
     let Some(given) = system_of(alloc, case, columns, GIVEN, &meter)? else {
         return Ok(false);
     };
     let Some(left) = without_columns(alloc, &given, &gone, &mut meter)? else {
         return Ok(false);
     };
-    Ok(
-        number(case, "systems ", left.len()) == left.len()
-            && has_used(case, "units ", &meter)
-            && have_kept(alloc, case, free, &left, &meter)?
-            && are_found(alloc, case, &given, &gone, &left)?
-            && is_decided(alloc, case, columns)?,
-    )
+    let right = number(case, "systems ", left.len()) == left.len()
+        && has_used(case, "units ", &meter);
+    Ok(right && (columns > 3 || is_found(alloc, case, &given, &gone, &left, &meter)?))
 }

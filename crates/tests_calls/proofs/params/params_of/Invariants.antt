@@ -1,5 +1,5 @@
 use Rattle.isl_space.specs.Names.{IsParameterList}
-use Rattle.tests_loops.proofs.params.params_of.Given as goal
+use Rattle.tests_calls.proofs.params.params_of.Given as goal
 
 abbrev pub invariant-loop-word : goal.invariant-loop-word
 invariant-loop-word l = IsParameterList l.params
