@@ -40,7 +40,7 @@ times_counted n a b e = ap (λ x. counted (x * b)) e ∙ saturated_left 18446744
 positive_bytes : (columns : ℕ) → 0 < row_bytes columns
 positive_bytes columns = of_both (nat_le columns 8)
   where
-    of_both : (b : Bool) → 0 < (if b then 208 else 16 * columns + 208)
+    of_both : (b : Bool) → 0 < (if b then 208 else columns * 16 + 208)
     of_both true = omega arith
     of_both false = omega arith
 
