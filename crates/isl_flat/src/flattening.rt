@@ -12,11 +12,12 @@ use sqlite_items::{Boxed, Items};
 use std::alloc::{AllocError, Global};
 use std::marker::Model;
 
-// Where an expression stands.
+/// Where an expression stands in a statement.
 #[derive(Clone, Copy)]
-enum Standing {
-    /// It is what its statement binds or shows.
+pub enum Standing {
+    /// It is what the statement binds or shows.
     Outermost,
+    /// It is an operand.
     Inside,
 }
 

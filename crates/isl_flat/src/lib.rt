@@ -4,4 +4,4 @@
 mod flattening;
 mod partial;
 
-pub use flattening::{SimpleStmt, flatten};
+pub use flattening::{SimpleStmt, Standing, flatten};
