@@ -4,7 +4,7 @@ use Rattle.isl_meter.proofs.CutLemmas.{IsCharged_trans}
 use Rattle.isl_space.specs.Form.{width_of}
 use Rattle.isl_loop.proofs.LimitLaws.{IsLoopOver-same}
 use Rattle.isl_nest.proofs.AroundLaws.{charged_bits}
-use Rattle.isl_due.proofs.GoodLaws.{good_tree}
+use Rattle.isl_schedule.proofs.GoodLaws.{good_tree}
 use Rattle.isl_loops.proofs.GenerateLaws.{cut_later, items_later}
 use Rattle.isl_loops.proofs.generate.codegen.Goals as goal
 
@@ -38,3 +38,6 @@ returns-clause-strided c set =
 
 pub returns-clause-changing : goal.returns-clause-changing
 returns-clause-changing c = c.in_ok-loops_of.ensures.changing
+
+pub returns-clause-program : goal.returns-clause-program
+returns-clause-program c = c.in_ok-loops_of.ensures.program
