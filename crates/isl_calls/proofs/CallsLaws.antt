@@ -12,12 +12,12 @@ use Rattle.isl_meter.specs.Gauge.{Gauge, IsCharged, IsCutBy, IsMetered}
 use Rattle.isl_meter.specs.declared.Cut.{Cut}
 use Rattle.isl_meter.proofs.CutLemmas.{IsCutBy-after}
 use Rattle.isl_space.specs.Element.{Element}
-use Rattle.isl_space.specs.Form.{Form, width_of}
+use Rattle.isl_space.specs.Form.{Form, width_of, IsNamed}
 use Rattle.isl_space.specs.Limits.{most_coordinates}
 use Rattle.isl_space.specs.Name.{Name}
 use Rattle.isl_space.specs.Names.{AreDistinct}
 use Rattle.isl_space.specs.Shape.{form_of}
-use Rattle.isl_space.specs.SpaceForm.{SpaceForm, coordinates_of, set_of, map_of}
+use Rattle.isl_space.specs.SpaceForm.{SpaceForm, coordinates_of, set_of, map_of, IsNamedSpace}
 use Rattle.isl_space.specs.Valuation.{Valuation, values_of}
 use Rattle.isl_space.proofs.ValuationLaws.{length-values_of, values_of-zip}
 use Rattle.isl_piece.specs.declared.row.Row.{Row}
@@ -191,10 +191,15 @@ forms_wide : (s : SpaceForm) → coordinates_of s ≤ most_coordinates
 forms_wide (set_of a) most = (most, most)
 forms_wide (map_of a b) most = (omega (arith, most), omega (arith, most))
 
+domain_named : (s : SpaceForm) → IsNamedSpace s → IsNamed (domain_form s)
+domain_named (set_of a) named = named
+domain_named (map_of a b) named = named.0
+
 record IsSound (g : Gauge) (params : ℕ) (c : Calls) : Type 0 where
   within : IsPlainWithin g c
   free : free_columns c.system ≡ params + width_behind c.is_own (width_of (called_form c)) (width_of (form_of c.time.value))
   narrow : (width_of (called_form c) ≤ most_coordinates) × (width_of (form_of c.time.value) ≤ most_coordinates)
+  named : IsNamed (called_form c)
   flat : ¬ IsPair (called_form c)
   same : c.is_own ≡ true → called_form c ≡ form_of c.time.value
 
@@ -209,6 +214,7 @@ part_sound g params c part s p = record {
     subst (λ (f : Form). width_of f ≤ most_coordinates) (sym p.like.domain) s.narrow.0,
     subst (λ (f : Form). width_of f ≤ most_coordinates) (sym p.like.time) s.narrow.1,
   );
+  named = subst IsNamed (sym p.like.domain) s.named;
   flat = λ pair. s.flat (subst IsPair p.like.domain pair);
   same = λ e. p.like.domain ∙ s.same (sym p.like.own ∙ e) ∙ sym p.like.time;
 }
@@ -232,15 +238,17 @@ module _ (g : Gauge) (value : KeptValue) (pieces : List PieceView) (are : map ke
 
   abbrev IsFine : PieceView → Type 0
   IsFine p = (¬ IsPair (domain_form p.space))
-      × (width_of (domain_form p.space) ≤ most_coordinates) × (width_of (time_form p.space) ≤ most_coordinates)
+      × (width_of (domain_form p.space) ≤ most_coordinates) × (width_of (time_form p.space) ≤ most_coordinates) × IsNamed (domain_form p.space)
 
   fine : All IsFine pieces
   fine = λ i d l.
-      let narrow = forms_wide (get_or pieces i d).space (sound i d l).kept.space.narrow.coordinates in (
+      let space = (sound i d l).kept.space in
+      let narrow = forms_wide (get_or pieces i d).space space.narrow.coordinates in (
         (λ pair. schedule.flat ((nested_exact value pieces are).0
             (Any-contains (λ (p : PieceView). IsPair (domain_form p.space)) pieces (get_or pieces i d) (Contains-get_or pieces i d l) pair))),
         narrow.0,
         narrow.1,
+        domain_named (get_or pieces i d).space space.named,
       )
 
   laid_sound : All (IsSound g (length params)) laid
@@ -251,6 +259,7 @@ module _ (g : Gauge) (value : KeptValue) (pieces : List PieceView) (are : map ke
       subst (λ (form : Form). width_of form ≤ most_coordinates) (sym r.domain) f.1,
       subst (λ (form : Form). width_of form ≤ most_coordinates) (sym r.time) f.2,
     );
+    named = subst IsNamed (sym r.domain) f.3;
     flat = λ pair. f.0 (subst IsPair r.domain pair);
     same = λ e. r.same (sym r.own ∙ e);
   }) pieces laid zipped fine
@@ -424,6 +433,7 @@ module _ (g : Gauge) (value : KeptValue) (pieces : List PieceView) (are : map ke
             free = s.free;
             bounded = made_bounded c c_in;
             narrow = s.narrow;
+            named = s.named;
             flat = s.flat;
             same = s.same;
           };
@@ -500,6 +510,7 @@ calls_later g h value calls charged are = record {
         free = c.free;
         bounded = c.bounded;
         narrow = c.narrow;
+        named = c.named;
         flat = c.flat;
         same = c.same;
       };

@@ -2,3 +2,8 @@ pub mod ApartLaws
 pub mod CallsLaws
 pub mod LaidLaws
 pub mod ZipLaws
+pub mod LevelLaws
+pub mod EndedLaws
+pub mod CalledLaws
+pub mod CoverLaws
+pub mod ItemsLaws

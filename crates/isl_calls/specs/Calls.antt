@@ -1,7 +1,7 @@
 -- public: what is called at which times, as systems. (isl manual, on schedules and on code generation)
 use Rattle.std.specs.Prelude.{◌≡◌, ◌↔◌, ℕ, ◌+◌, ◌≤◌, ℤ, Bool, true, false, List, [], ◌∷◌, ◌++◌, All, AllPairs, Any, length}
 use Rattle.isl_meter.specs.Gauge.{Gauge}
-use Rattle.isl_space.specs.Form.{Form, width_of}
+use Rattle.isl_space.specs.Form.{Form, width_of, IsNamed}
 use Rattle.isl_space.specs.Limits.{most_coordinates}
 use Rattle.isl_space.specs.Name.{Name}
 use Rattle.isl_space.specs.Shape.{form_of}
@@ -37,7 +37,8 @@ pub record IsCalledAt (params : List Name) (valuation : Valuation) (x t : Point)
   pub holds : HoldsSystem calls.system (values_of params valuation ++ numbers_behind calls.is_own x.numbers t.numbers)
 
 -- A system over its columns behind so many parameters, which defines none, and has finitely many points wherever these have numbers.
--- Forms are as narrow as those of values; no pair is called; where each point is its time, both have one form.
+-- Forms are as narrow as those of values, and names may stand in a literal; no pair is called; where each point is its time, both have one
+-- form.
 pub record AreCalls (g : Gauge) (params : ℕ) (calls : Calls) : Type 0 where
   pub within : IsSystemWithin g calls.system
   pub plain : calls.system.definitions ≡ []
@@ -45,6 +46,7 @@ pub record AreCalls (g : Gauge) (params : ℕ) (calls : Calls) : Type 0 where
       ≡ params + width_behind calls.is_own (width_of (form_of calls.domain.value)) (width_of (form_of calls.time.value))
   pub bounded : IsBounded calls.system params
   pub narrow : (width_of (form_of calls.domain.value) ≤ most_coordinates) × (width_of (form_of calls.time.value) ≤ most_coordinates)
+  pub named : IsNamed (form_of calls.domain.value)
   pub flat : ¬ IsPair (form_of calls.domain.value)
   pub same : calls.is_own ≡ true → form_of calls.domain.value ≡ form_of calls.time.value
 

@@ -1,5 +1,15 @@
 pub mod Calls
 pub mod Laid
 pub mod Apart
+pub mod Covers
+pub mod Level
+pub mod Items
+pub mod CoverRows
+pub use Rattle.isl_nest.specs.Covered
+pub use Rattle.isl_nest.specs.Item
+pub use Rattle.isl_schedule.specs.Due
 pub use Rattle.isl_schedule.specs.Refused
 pub use Rattle.isl_schedule.specs.Schedule
+pub use Rattle.isl_tower.specs.Bounded
+pub use Rattle.isl_tower.specs.Ends
+pub use Rattle.isl_tower.specs.Tower

@@ -20,15 +20,15 @@ use Rattle.isl_loop.proofs.TreeLaws.{trace_of-Block, turns_of-Block}
 use Rattle.isl_nest.specs.declared.item.Item.{Item}
 use Rattle.isl_nest.specs.declared.place.Place.{Place}
 use Rattle.isl_nest.specs.Covered.{view_of, IsCovered}
-use Rattle.isl_nest.specs.Depth.{depth_in, depth_of}
+use Rattle.isl_loop.specs.Depth.{depth_in, depth_of}
 use Rattle.isl_nest.specs.Item.{ItemView}
 use Rattle.isl_nest.specs.Separate.{IsSeparate}
 use Rattle.isl_nest.proofs.CountLaws.{none_deep, none_idle}
 use Rattle.isl_union.specs.KeptValue.{KeptValue}
-use Rattle.isl_strided.specs.Strided.{IsStrided}
-use Rattle.isl_strided.proofs.FormLaws.{all_forms}
-use Rattle.isl_strided.proofs.SeparateLaws.{separate_busy, separate_depth}
-use Rattle.isl_items.specs.Items.{AreItemsOf, IsOnlyItem}
+use Rattle.isl_nest.specs.Strided.{IsStrided}
+use Rattle.isl_nest.proofs.FormLaws.{all_forms}
+use Rattle.isl_nest.proofs.BusyLaws.{separate_busy, separate_depth}
+use Rattle.isl_calls.specs.Items.{AreItemsOf, IsOnlyItem}
 use Rattle.isl_loops.specs.Strided.{IsNeverIdle}
 use Rattle.isl_loops.proofs.GenerateLaws.{own_long}
 

@@ -1,6 +1,6 @@
 -- The items of a value, and the tree of all of them.
-use Rattle.std.proofs.Common.{◌≡◌, sym, ap, ◌∙◌, subst, arith, ℕ, ◌≤◌, ℤ, pos, List, [], ◌∷◌, length, get_or}
-use Rattle.std.specs.Prelude.{replicate, slice_get, None, Some}
+use Rattle.std.proofs.Common.{◌≡◌, sym, ap, ◌∙◌, subst, arith, ℕ, ◌<◌, ◌≤◌, ◌^◌, ℤ, pos, List, [], ◌∷◌, length, get_or}
+use Rattle.std.specs.Prelude.{replicate, slice_get, IfOk, None, Some, Result, Ok, Err}
 use Rattle.std.proofs.lemmas.Option.{same_Some}
 use Rattle.std.specs.List.{zip, All, AllPairs}
 use Rattle.std.proofs.lemmas.List.{length-map, length-replicate}
@@ -8,6 +8,7 @@ use Rattle.std.proofs.lemmas.List.Elements.{All-nil, All-weaker}
 use Rattle.isl_meter.specs.Gauge.{Gauge, IsCharged, IsCutBy}
 use Rattle.isl_meter.specs.declared.Cut.{Cut}
 use Rattle.isl_meter.proofs.CutLemmas.{IsCutBy-after}
+use Rattle.isl_space.specs.Name.{Name}
 use Rattle.isl_space.specs.Names.{IsParameterList}
 use Rattle.isl_space.specs.Valuation.{Valuation, values_of}
 use Rattle.isl_space.proofs.ValuationLaws.{length-values_of, values_of-zip}
@@ -15,8 +16,12 @@ use Rattle.isl_piece.specs.declared.row.Row.{Row}
 use Rattle.isl_piece.specs.Row.{IsRowWithin, IsWellFormed}
 use Rattle.isl_frame.specs.Frame.{column_at, IsOwnFrame}
 use Rattle.isl_loop.specs.declared.tree.Loop.{Loop}
+use Rattle.isl_loop.specs.Formed.{IsLoopOver}
+use Rattle.isl_loop.specs.Printable.{IsPrintable}
+use Rattle.isl_loop.specs.Program.{IsProgram}
 use Rattle.isl_loop.specs.Run.{trace}
 use Rattle.isl_loop.proofs.NestLaws.{lists_same}
+use Rattle.isl_loop.proofs.PrintLaws.{printable_depth, printable_named}
 use Rattle.isl_nest.specs.Covered.{view_of, IsCovered}
 use Rattle.isl_nest.specs.Item.{IsCalledBehind}
 use Rattle.isl_nest.specs.Places.{IsPlace}
@@ -29,7 +34,7 @@ use Rattle.isl_schedule.specs.declared.fault.GenFault.TheVariants as gen_fault
 use Rattle.isl_union.specs.KeptValue.{Has, KeptValue}
 use Rattle.isl_schedule.specs.Due.{IsDue}
 use Rattle.isl_schedule.specs.Good.{ListsCalls}
-use Rattle.isl_items.specs.Items.{AreItemsOf}
+use Rattle.isl_calls.specs.Items.{AreItemsOf}
 use Rattle.isl_loops.specs.Together.{AreApart, IsCalledBySome, IsOver, ListsAll}
 use Rattle.isl_loops.proofs.StartLaws.{apart_behind, lists_at_params}
 
@@ -116,3 +121,17 @@ own_place g place own within bare =
 pub cut_later : (g h k : Gauge) (value : KeptValue) (cut : Cut) → IsSchedule value → IsCharged g h → IsCutBy h k cut
     → IsRefused value g k (gen_fault.Cut cut)
 cut_later g h k value cut schedule charged by = (schedule.flat, schedule.one_form, IsCutBy-after g h k cut charged by)
+
+-- ---- what is printed
+pub program_made : (g : Gauge) → g.bits ≤ 127 → (params : List Name) (n : ℕ) → n ≡ length params → n < 2 ^ 64 → (r : Result Loop Cut)
+    → IfOk r (IsLoopOver g n) → IfOk r (IsPrintable n) → IfOk r (IsProgram params)
+program_made g bits params n e few (Ok tree) over printable =
+    let deep = printable_depth n tree few printable in
+    record {
+      gauge = g;
+      bits = bits;
+      over = subst (λ (k : ℕ). IsLoopOver g k tree) e over;
+      named = printable_named n tree printable;
+      nested = omega (arith, deep);
+    }
+program_made g bits params n e few (Err cut) over printable = tt

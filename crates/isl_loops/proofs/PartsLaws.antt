@@ -15,7 +15,6 @@ use Rattle.isl_loop.specs.Nest.{Lists, MayPrecede, Timed}
 use Rattle.isl_loop.specs.Run.{trace, Event}
 use Rattle.isl_loop.proofs.NestLaws.{lists_same}
 use Rattle.isl_loop.proofs.TreeLaws.{trace_of-Block}
-use Rattle.isl_nest.specs.Changing.{AsksWhatChanges}
 use Rattle.isl_nest.specs.Covered.{view_of}
 use Rattle.isl_nest.specs.Item.{IsCalledBehind}
 use Rattle.isl_nest.specs.Nest.{ListsBehind}
@@ -52,9 +51,9 @@ pub parts_over : (g : Gauge) (n : ℕ) (parts : List Loop) (tree : Loop) (made :
     → All (IsLoopOver g n) parts → IsLoopOver g n tree → All (IsLoopOver g n) made
 parts_over g n parts tree made e over more = subst (All (IsLoopOver g n)) (sym e) (All-push (IsLoopOver g n) parts tree over more)
 
-pub parts_asking : (n : ℕ) (parts : List Loop) (tree : Loop) (made : List Loop) → made ≡ parts ++ tree ∷ []
-    → All (AsksWhatChanges n) parts → AsksWhatChanges n tree → All (AsksWhatChanges n) made
-parts_asking n parts tree made e asks more = subst (All (AsksWhatChanges n)) (sym e) (All-push (AsksWhatChanges n) parts tree asks more)
+pub parts_all : (P : Loop → Type 0) (parts : List Loop) (tree : Loop) (made : List Loop) → made ≡ parts ++ tree ∷ []
+    → All P parts → P tree → All P made
+parts_all P parts tree made e all more = subst (All P) (sym e) (All-push P parts tree all more)
 
 -- ---- what blocks list
 module _ (place : Place) where

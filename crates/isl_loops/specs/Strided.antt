@@ -7,11 +7,11 @@ use Rattle.isl_space.specs.Valuation.{Valuation, values_of}
 use Rattle.isl_piece.specs.declared.row.Row.{Row}
 use Rattle.isl_loop.specs.declared.tree.Loop.{Loop}
 use Rattle.isl_loop.specs.Run.{idle_of, trace, turns_of}
-use Rattle.isl_nest.specs.Depth.{depth_of}
+use Rattle.isl_loop.specs.Depth.{depth_of}
 use Rattle.isl_union.specs.KeptValue.{KeptValue}
 use Rattle.isl_calls.specs.Calls.{IsSetOf}
-use Rattle.isl_strided.specs.Busy.{HasNoIdleTurn}
-use Rattle.isl_strided.specs.Strided.{IsStrided}
+use Rattle.isl_nest.specs.Busy.{HasNoIdleTurn}
+use Rattle.isl_nest.specs.Strided.{IsStrided}
 
 -- the value is one piece, a set, whose rows are strided
 pub record IsStridedSet (value : KeptValue) : Type 0 where

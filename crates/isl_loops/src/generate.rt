@@ -3,6 +3,7 @@
 ghost use Rattle.std.specs.Prelude.{◌≡◌, ◌≤◌, ℕ, List, All, IfOk, length};
 ghost use Rattle.isl_meter.specs.Gauge.{IsMetered};
 ghost use Rattle.isl_loop.specs.Formed.{IsLoopOver};
+ghost use Rattle.isl_loop.specs.Program.{IsProgram};
 ghost use Rattle.isl_union.specs.KeptValue.{HasNoDefinitions};
 ghost use Rattle.isl_union.specs.Numbers.{IsWithinLimit};
 ghost use Rattle.isl_schedule.specs.Good.{IsGenerated, ListsCalls};
@@ -10,14 +11,14 @@ ghost use Rattle.isl_schedule.specs.Schedule.{IsSchedule};
 ghost use Rattle.isl_space.specs.Form.{width_of};
 ghost use Rattle.isl_piece.specs.declared.row.Row.{Row};
 ghost use Rattle.isl_nest.specs.Changing.{AsksWhatChanges};
-ghost use Rattle.isl_strided.specs.Strided.{IsStrided};
-ghost use Rattle.isl_items.specs.Items.{AreItemsOf, IsOnlyItem};
+ghost use Rattle.isl_nest.specs.Strided.{IsStrided};
+ghost use Rattle.isl_calls.specs.Items.{AreItemsOf, IsOnlyItem};
 ghost use Rattle.isl_loops.specs.Strided.{IsNeverIdle, IsStridedSet};
 
 use crate::groups::Extent;
 use crate::together::together;
+use isl_calls::items_of;
 use isl_frame::own_frame;
-use isl_items::items_of;
 use isl_loop::Loop;
 use isl_meter::{Cut, Meter};
 use isl_nest::{Item, Place};
@@ -45,6 +46,7 @@ fn loops_of(alloc: Global, value: &Value, items: Vec<Item>, meter: &mut Meter) -
         → IsStrided (length value.now.params) levels rows → IfOk result (IsNeverIdle value.now.params levels) }
     ensures over { IfOk result (IsLoopOver meter.old (length value.now.params)) }
     ensures changing { IfOk result (AsksWhatChanges (length value.now.params)) }
+    ensures program { IfOk result (IsProgram value.now.params) }
     ensures meter { IsMetered meter.old meter.new result }
 {
     // For what a meter keeps: it has at least 8 bits.
@@ -60,7 +62,8 @@ fn loops_of(alloc: Global, value: &Value, items: Vec<Item>, meter: &mut Meter) -
 }
 
 /// Loops that visit what a value without defined columns tells to be visited, each point once, and none before one of an earlier time; the
-/// points of a set at themselves. No loop asks at each turn what does not change. Of a strided set no turn of a loop is idle. (isl manual, on code generation)
+/// points of a set at themselves. Their text tells what they execute. No loop asks at each turn what does not change. Of a strided set no turn
+/// of a loop is idle. (isl manual, on code generation)
 ///
 /// # Errors
 ///
@@ -74,6 +77,7 @@ pub fn codegen(alloc: Global, value: &Value, meter: &mut Meter) -> Result<Loop, 
     ensures schedule { IfOk result (λ _. IsSchedule value.now) }
     ensures strided { (set : IsStridedSet value.now) → IfOk result (IsNeverIdle value.now.params (width_of set.form)) }
     ensures changing { IfOk result (AsksWhatChanges (length value.now.params)) }
+    ensures program { IfOk result (IsProgram value.now.params) }
 {
     let items = items_of(alloc, value, meter)?;
     Ok(loops_of(alloc, value, items, meter)?)

@@ -3,6 +3,7 @@
 ghost use Rattle.std.specs.Prelude.{◌≡◌, ◌⊎◌, ◌+◌, ◌-◌, ◌^◌, ◌<◌, ◌≤◌, [], ◌∷◌, All, AllPairs, IfOk, MatchOption, length};
 ghost use Rattle.isl_meter.specs.Gauge.{Gauge, IsMetered};
 ghost use Rattle.isl_loop.specs.Formed.{IsLoopOver};
+ghost use Rattle.isl_loop.specs.Printable.{IsPrintable};
 ghost use Rattle.isl_nest.specs.declared.item.Item.{Item};
 ghost use Rattle.isl_nest.specs.Changing.{AsksWhatChanges};
 ghost use Rattle.isl_nest.specs.Covered.{view_of};
@@ -39,6 +40,7 @@ fn one_by_one(
         (item.params + item.levels - length place.now.frame) place.now) }
     ensures over { IfOk result (IsLoopOver meter.old place.now.variables) }
     ensures changing { IfOk result (AsksWhatChanges place.now.variables) }
+    ensures printable { IfOk result (IsPrintable place.now.variables) }
     ensures meter { IsMetered meter.old meter.new result }
 {
     let columns = place.frame.len();
@@ -118,6 +120,7 @@ pub(crate) fn together(
         (item.params + item.levels - length place.now.frame) place.now) }
     ensures over { IfOk result (IsLoopOver meter.old place.now.variables) }
     ensures changing { IfOk result (AsksWhatChanges place.now.variables) }
+    ensures printable { IfOk result (IsPrintable place.now.variables) }
     ensures meter { IsMetered meter.old meter.new result }
 {
     if items.len() <= 1 || place.frame.len() == extent.params + extent.times {

@@ -14,7 +14,7 @@ use Rattle.isl_loop.specs.Lists.{calls_of, turns_through}
 use Rattle.isl_loop.specs.Run.{idle_in, idle_of, idle_turn, rows_hold, trace, traces, turns_of, Event}
 use Rattle.isl_loop.specs.Turns.{turns}
 use Rattle.isl_loop.proofs.TreeLaws.{trace_of-Block, turns_of-Block, turns_of-For, turns_of-If}
-use Rattle.isl_nest.specs.Depth.{depth_in, depth_of}
+use Rattle.isl_loop.specs.Depth.{depth_in, depth_of}
 use Rattle.isl_nest.specs.Separate.{IsStill}
 
 -- ---- sums

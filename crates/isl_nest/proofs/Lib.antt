@@ -20,3 +20,8 @@ pub mod WideLaws
 pub mod ChangingLaws
 pub mod PartedLaws
 pub mod UnderLaws
+pub mod SumLaws
+pub mod FormLaws
+pub mod StridedLaws
+pub mod DepthLaws
+pub mod BusyLaws

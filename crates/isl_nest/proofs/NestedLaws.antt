@@ -18,7 +18,7 @@ use Rattle.isl_loop.proofs.TreeLaws.{trace_of-For, trace_of-If}
 use Rattle.isl_nest.specs.declared.around.Around.{Around}
 use Rattle.isl_nest.specs.declared.nested.Nested.{Nested}
 use Rattle.isl_nest.specs.Around.{turns_at}
-use Rattle.isl_nest.specs.Depth.{depth_of}
+use Rattle.isl_loop.specs.Depth.{depth_of}
 use Rattle.isl_nest.specs.TurnsAt.{idle_at_turn, turns_at_turn}
 use Rattle.isl_nest.proofs.CountLaws.{sum_same}
 use Rattle.isl_nest.specs.LoopedNest.{IsLoopedNest}

@@ -26,7 +26,7 @@ use Rattle.isl_nest.specs.declared.nested.Nested.{Nested}
 use Rattle.isl_nest.specs.declared.place.Place.{Place}
 use Rattle.isl_nest.specs.Asked.{AreAsked}
 use Rattle.isl_nest.specs.Covered.{IsItem}
-use Rattle.isl_nest.specs.Depth.{depth_of}
+use Rattle.isl_loop.specs.Depth.{depth_of}
 use Rattle.isl_nest.specs.Item.{IsBegun, IsCalledBehind, ItemView}
 use Rattle.isl_nest.specs.Naming.{AreNaming}
 use Rattle.isl_nest.specs.Nest.{with_context, IsHere, IsNest, IsNowhere, ListsBehind}

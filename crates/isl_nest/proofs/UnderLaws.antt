@@ -9,10 +9,12 @@ use Rattle.isl_piece.specs.declared.row.Row.{Row}
 use Rattle.isl_piece.specs.Row.{coef_at}
 use Rattle.isl_loop.specs.declared.tree.Loop.{If, Loop}
 use Rattle.isl_loop.specs.Formed.{IsLoopOver, IsRowOver}
+use Rattle.isl_loop.specs.Printable.{IsPrintable}
 use Rattle.isl_loop.specs.Run.{each_in, idle_of, idle_turn, row_holds, rows_hold, trace, turns_of, Event}
 use Rattle.isl_loop.proofs.TreeLaws.{each_same, over-If}
+use Rattle.isl_loop.proofs.PrintLaws.{printable_of-If}
 use Rattle.isl_nest.specs.Changing.{asked_first, AsksWhatChanges}
-use Rattle.isl_nest.specs.Depth.{depth_of}
+use Rattle.isl_loop.specs.Depth.{depth_of}
 use Rattle.isl_nest.specs.Opened.{AreParted, IsOpened, RunsUnder}
 use Rattle.isl_nest.proofs.ChangingLaws.{changing_of-If}
 use Rattle.isl_nest.proofs.CountLaws.{sum_same, under_depth, under_idle, under_turned}
@@ -66,6 +68,7 @@ opened_if tree rows body inner is same = rw (is, same) (record {
   first = refl;
   over = λ g n over. over-If g n rows body over;
   changing = λ n asks. (changing_of-If n rows body).0 asks;
+  printable = λ n h. (printable_of-If n rows body).0 h;
 })
 
 -- ---- a tree under more rows
@@ -84,6 +87,9 @@ module _ (rows more all : List Row) (tree inner boxed : Loop) (opened : IsOpened
   joined_changing n asks =
       (changing_of-If n all boxed).1
       (subst (λ (l : Loop). (asked_first l ≡ []) × AsksWhatChanges n l) (sym boxed_is) (opened.changing n asks))
+
+  pub joined_printable : (n : ℕ) → IsPrintable n tree → IsPrintable n (If all boxed)
+  joined_printable n h = (printable_of-If n all boxed).1 (subst (λ (l : Loop). IsPrintable n l) (sym boxed_is) (opened.printable n h))
 
 -- ---- a loop
 each_none : (f : ℤ → List Event) (xs : List ℤ) → ((x : ℤ) → f x ≡ []) → each_in f xs ≡ []

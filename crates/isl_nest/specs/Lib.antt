@@ -8,7 +8,6 @@ pub mod Around
 pub mod Stepping
 pub mod Striding
 pub mod Between
-pub mod Depth
 pub mod TurnsAt
 pub mod Changing
 pub mod Opened
@@ -16,3 +15,5 @@ pub mod Nest
 pub mod LoopedNest
 pub mod Asked
 pub mod Separate
+pub mod Strided
+pub mod Busy

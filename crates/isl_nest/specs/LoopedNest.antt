@@ -2,7 +2,7 @@
 use Rattle.std.specs.Prelude.{◌≡◌, ◌≤◌, ℕ, suc, ℤ, if◌then◌else◌, List, [], ◌∷◌, ◌++◌, length}
 use Rattle.std.specs.List.{sum_by}
 use Rattle.isl_loop.specs.Run.{each_in, idle_of, rows_hold, trace, turns_of}
-use Rattle.isl_nest.specs.Depth.{depth_of}
+use Rattle.isl_loop.specs.Depth.{depth_of}
 use Rattle.isl_nest.specs.TurnsAt.{idle_at_turn, turns_at_turn}
 use Rattle.isl_nest.specs.declared.around.Around.{Around}
 use Rattle.isl_nest.specs.declared.nested.Nested.{Nested}

@@ -13,7 +13,7 @@ use Rattle.isl_loop.specs.declared.tree.Loop.{Loop}
 use Rattle.isl_loop.specs.Formed.{IsLoopOver}
 use Rattle.isl_loop.specs.Nest.{Lists}
 use Rattle.isl_loop.specs.Run.{each_in, idle_of, rows_hold, trace, turns_of}
-use Rattle.isl_nest.specs.Depth.{depth_of}
+use Rattle.isl_loop.specs.Depth.{depth_of}
 use Rattle.isl_nest.specs.TurnsAt.{idle_at_turn, turns_at_turn}
 use Rattle.isl_nest.specs.declared.nested.Nested.{Nested}
 use Rattle.isl_nest.specs.declared.place.Place.{Place}

@@ -5,9 +5,10 @@ use Rattle.isl_piece.specs.declared.row.Row.{Row}
 use Rattle.isl_piece.specs.Row.{coef_at}
 use Rattle.isl_loop.specs.declared.tree.Loop.{Loop}
 use Rattle.isl_loop.specs.Formed.{IsLoopOver, IsRowOver}
+use Rattle.isl_loop.specs.Printable.{IsPrintable}
 use Rattle.isl_loop.specs.Run.{idle_of, rows_hold, trace, turns_of}
 use Rattle.isl_nest.specs.Changing.{asked_first, AsksWhatChanges}
-use Rattle.isl_nest.specs.Depth.{depth_of}
+use Rattle.isl_loop.specs.Depth.{depth_of}
 
 -- the tree runs the inner one where the rows hold
 pub record RunsUnder (rows : List Row) (inner tree : Loop) : Type 0 where
@@ -22,6 +23,7 @@ pub record IsOpened (tree : Loop) (rows : List Row) (inner : Loop) : Type 0 wher
   pub first : asked_first tree ≡ rows
   pub over : (g : Gauge) (n : ℕ) → IsLoopOver g n tree → All (IsRowOver g n) rows × IsLoopOver g n inner
   pub changing : (n : ℕ) → AsksWhatChanges n tree → (asked_first inner ≡ []) × AsksWhatChanges n inner
+  pub printable : (n : ℕ) → IsPrintable n tree → IsPrintable n inner
 
 -- Of the rows, those outside are over so many variables, and hold with those inside where the rows do, whatever the number of one variable
 -- more. Those inside name that one.

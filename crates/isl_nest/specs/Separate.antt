@@ -8,7 +8,7 @@ use Rattle.isl_loop.specs.declared.tree.Loop.{Loop}
 use Rattle.isl_loop.specs.Run.{idle_of, rows_hold, trace, turns_of}
 use Rattle.isl_nest.specs.declared.nested.Nested.{Nested}
 use Rattle.isl_nest.specs.declared.place.Place.{Place}
-use Rattle.isl_nest.specs.Depth.{depth_of}
+use Rattle.isl_loop.specs.Depth.{depth_of}
 use Rattle.isl_nest.specs.Item.{HoldFront, ItemView}
 use Rattle.isl_nest.specs.Nest.{with_context, IsNest}
 use Rattle.isl_nest.specs.Places.{Stands}

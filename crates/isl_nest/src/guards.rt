@@ -4,6 +4,7 @@ ghost use Rattle.std.specs.Prelude.{◌≡◌, ◌↔◌, ◌++◌, ℕ, pos, Al
 ghost use Rattle.isl_meter.specs.Gauge.{Gauge};
 ghost use Rattle.isl_piece.specs.Row.{coef_at};
 ghost use Rattle.isl_loop.specs.Formed.{IsLoopOver, IsRowOver};
+ghost use Rattle.isl_loop.specs.Printable.{IsPrintable};
 ghost use Rattle.isl_nest.specs.Changing.{asked_first, AsksWhatChanges};
 ghost use Rattle.isl_nest.specs.Naming.{cut};
 ghost use Rattle.isl_nest.specs.Opened.{AreParted, IsOpened, RunsUnder};
@@ -52,6 +53,7 @@ pub(crate) fn under(alloc: Global, rows: Rows, tree: Loop) -> Result<Loop, Alloc
     ensures over { (g : Gauge) (n : ℕ) → All (IsRowOver g n) rows → IsLoopOver g n tree → IfOk result (IsLoopOver g n) }
     ensures first { IfOk result (λ made. asked_first made ≡ rows ++ asked_first tree) }
     ensures changing { (n : ℕ) → AsksWhatChanges n tree → IfOk result (AsksWhatChanges n) }
+    ensures printable { (n : ℕ) → IsPrintable n tree → IfOk result (IsPrintable n) }
 {
     if rows.is_empty() {
         return Ok(tree);

@@ -3,6 +3,7 @@
 ghost use Rattle.std.specs.Prelude.{◌≡◌, ◌+◌, ◌≤◌, ℕ, IfOk, IfSome, MatchOption, length};
 ghost use Rattle.isl_meter.specs.Gauge.{IsMetered};
 ghost use Rattle.isl_loop.specs.Formed.{IsLoopOver};
+ghost use Rattle.isl_loop.specs.Printable.{IsPrintable};
 ghost use Rattle.isl_nest.specs.Changing.{AsksWhatChanges};
 ghost use Rattle.isl_nest.specs.Covered.{view_of, IsCovered};
 ghost use Rattle.isl_nest.specs.Nest.{IsCallAt, IsNest, IsNestOver, IsNowhere, ListsBehind};
@@ -21,8 +22,19 @@ use isl_bounds::{Side, divided};
 use isl_frame::{all_through, needed};
 use isl_loop::Loop;
 use isl_meter::{Cut, Meter};
+use isl_space::Name;
 use sqlite_items::Items;
 use std::alloc::{AllocError, Global};
+
+// The name of what the item calls.
+fn name_of(item: &Item) -> Result<Option<Name>, AllocError>
+    ensures { IfOk result (λ name. name ≡ item.now.name) }
+{
+    match &item.name {
+        Some(name) => Ok(Some(name.copy()?)),
+        None => Ok(None),
+    }
+}
 
 // The call behind the last column.
 fn call(alloc: Global, item: &Item, place: &Place, meter: &Meter) -> Result<Loop, AllocError>
@@ -32,6 +44,7 @@ fn call(alloc: Global, item: &Item, place: &Place, meter: &Meter) -> Result<Loop
     ensures call { IfOk result (IsCallAt (view_of item.now) place.now) }
     ensures over { IfOk result (IsLoopOver meter.now place.now.variables) }
     ensures changing { (n : ℕ) → IfOk result (AsksWhatChanges n) }
+    ensures printable { (n : ℕ) → IfOk result (IsPrintable n) }
 {
     // For what a meter keeps: it has at least 8 bits.
     let _limit = meter.limit();
@@ -40,11 +53,7 @@ fn call(alloc: Global, item: &Item, place: &Place, meter: &Meter) -> Result<Loop
         let at = item.arguments[i];
         arguments.push(divided(alloc, &place.frame.as_slice()[at], Side::High)?)?;
     }
-    let name = match &item.name {
-        Some(name) => Some(name.copy()?),
-        None => None,
-    };
-    Ok(Loop::Call(name, arguments))
+    Ok(Loop::Call(name_of(item)?, arguments))
 }
 
 /// The nest of the item behind the columns of the place, where so many are left: a tree under rows, which lists the item's calls in the order
@@ -68,6 +77,7 @@ pub fn nest(
         (IsNest (view_of item.now) left place.now)) }
     ensures over { IfOk result (λ nested. IfSome nested (IsNestOver meter.old place.now.variables)) }
     ensures changing { IfOk result (λ nested. IfSome nested (λ n. AsksWhatChanges place.now.variables n.tree)) }
+    ensures printable { IfOk result (λ nested. IfSome nested (λ n. IsPrintable place.now.variables n.tree)) }
     ensures meter { IsMetered meter.old meter.new result }
 {
     if left == 0 {
@@ -119,6 +129,7 @@ pub fn separate(
     ensures separate { IfOk result (IsSeparate (view_of item.now) left place.now) }
     ensures over { IfOk result (IsLoopOver meter.old place.now.variables) }
     ensures changing { IfOk result (AsksWhatChanges place.now.variables) }
+    ensures printable { IfOk result (IsPrintable place.now.variables) }
     ensures meter { IsMetered meter.old meter.new result }
 {
     let variables = place.variables;

@@ -1,14 +1,15 @@
 //! Nests of loops.
 
-ghost use Rattle.std.specs.Prelude.{◌≡◌, ◌≢◌, ◌≤◌, ◌+◌, ◌∷◌, ◌++◌, ◌<ℤ◌, pos, ℕ, suc, ℤ, List, [], All, IfOk, length};
+ghost use Rattle.std.specs.Prelude.{◌≡◌, ◌≢◌, ◌<◌, ◌≤◌, ◌+◌, ◌^◌, ◌∷◌, ◌++◌, ◌<ℤ◌, pos, ℕ, suc, ℤ, List, [], All, IfOk, length};
 ghost use Rattle.std.specs.List.{sum_by};
 ghost use Rattle.isl_meter.specs.Gauge.{Gauge, IsWithin};
 ghost use Rattle.isl_piece.specs.Row.{coef_at};
 ghost use Rattle.isl_loop.specs.Formed.{IsExprOver, IsLoopOver};
+ghost use Rattle.isl_loop.specs.Printable.{IsPrintable};
 ghost use Rattle.isl_loop.specs.Run.{each_in, idle_of, idle_turn, trace, turns_of};
 ghost use Rattle.isl_nest.specs.Around.{turns_at};
 ghost use Rattle.isl_nest.specs.Changing.{asked_first, AsksWhatChanges};
-ghost use Rattle.isl_nest.specs.Depth.{depth_of};
+ghost use Rattle.isl_loop.specs.Depth.{depth_of};
 
 use crate::around::Around;
 use crate::guards::{Opened, Parted, under};
@@ -40,6 +41,7 @@ fn looped(alloc: Global, head: Head, body: Loop) -> Result<Loop, AllocError>
     ensures depth { IfOk result (λ made. depth_of made ≡ suc (depth_of body)) }
     ensures changing { (n : ℕ) → All (λ r. coef_at r n ≢ pos 0) (asked_first body) → AsksWhatChanges (n + 1) body
         → IfOk result (AsksWhatChanges n) }
+    ensures printable { (n : ℕ) → n + 1 < 2 ^ 64 → IsPrintable (n + 1) body → IfOk result (IsPrintable n) }
 {
     let Head { low, high, step } = head;
     Ok(Loop::For(low, high, step, Boxed::new(alloc, body)?))
@@ -63,6 +65,7 @@ pub fn for_loop(alloc: Global, variables: usize, head: Head, body: Loop) -> Resu
         ≤ sum_by (λ x. idle_turn (trace body (point ++ x ∷ [])) + idle_of body (point ++ x ∷ [])) (turns_at head point)) }
     ensures depth { IfOk result (λ made. depth_of made ≡ suc (depth_of body)) }
     ensures changing { AsksWhatChanges (variables + 1) body → IfOk result (AsksWhatChanges variables) }
+    ensures printable { variables + 1 < 2 ^ 64 → IsPrintable (variables + 1) body → IfOk result (IsPrintable variables) }
 {
     let opened = Opened::of(alloc, body);
     let parted = Parted::of(alloc, &opened.rows, variables)?;
@@ -109,6 +112,8 @@ impl Nested {
         ensures over { (g : Gauge) → IsAroundOver g variables around → IsNestOver g (variables + 1) body
             → IfOk result (IsNestOver g variables) }
         ensures changing { AsksWhatChanges (variables + 1) body.tree → IfOk result (λ nested. AsksWhatChanges variables nested.tree) }
+        ensures printable { variables + 1 < 2 ^ 64 → IsPrintable (variables + 1) body.tree
+            → IfOk result (λ nested. IsPrintable variables nested.tree) }
     {
         let Around {
             head,

@@ -38,3 +38,6 @@ returns-clause-strided c set =
 
 pub returns-clause-changing : goal.returns-clause-changing
 returns-clause-changing c = c.in_ok-loops_of.ensures.changing
+
+pub returns-clause-program : goal.returns-clause-program
+returns-clause-program c = c.in_ok-loops_of.ensures.program

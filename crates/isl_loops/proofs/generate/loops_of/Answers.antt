@@ -1,4 +1,4 @@
-use Rattle.std.proofs.Common.{◌≡◌, ◌∙◌, ◌+◌, ◌-◌, ◌≤◌, ap, subst, arith, length, ℕ, List}
+use Rattle.std.proofs.Common.{◌≡◌, ◌∙◌, ◌+◌, ◌-◌, ◌<◌, ◌≤◌, ◌^◌, ap, subst, arith, length, ℕ, List}
 use Rattle.std.proofs.lemmas.Result.{IfOk-weaker}
 use Rattle.isl_loop.specs.Formed.{IsLoopOver}
 use Rattle.isl_nest.specs.declared.place.Place.{Place}
@@ -12,7 +12,7 @@ use Rattle.isl_schedule.specs.Good.{ListsCalls}
 use Rattle.isl_loops.specs.Strided.{IsNeverIdle}
 use Rattle.isl_loops.specs.Together.{ListsAll}
 use Rattle.isl_loops.proofs.AloneLaws.{never_idle}
-use Rattle.isl_loops.proofs.GenerateLaws.{items_apart, items_over, lists_value, own_long, own_place}
+use Rattle.isl_loops.proofs.GenerateLaws.{items_apart, items_over, lists_value, own_long, own_place, program_made}
 use Rattle.isl_loops.proofs.generate.loops_of.Goals as goal
 
 pub together-requires-clause-place : goal.together-requires-clause-place
@@ -96,3 +96,14 @@ returns-clause-changing c =
     c.len-params.ensures.len ∙ ap (λ (ns : List Name). length ns) c.params.ensures.content in
     IfOk-weaker c.together.result (AsksWhatChanges c.len-params.result) (AsksWhatChanges (length value.params))
     (λ tree asks. subst (λ (n : ℕ). AsksWhatChanges n tree) e asks) c.together.ensures.changing
+
+pub returns-clause-program : goal.returns-clause-program
+returns-clause-program c =
+    let value = c.args.value.now in
+    let e : c.len-params.result ≡ length value.params =
+    c.len-params.ensures.len ∙ ap (λ (ns : List Name). length ns) c.params.ensures.content in
+    let few = c.len-params.ensures.well_formed.few in
+    let long = c.len-params.ensures.len in
+    let room : c.len-params.result < 2 ^ 64 = omega (arith, few, long) in
+    program_made c.args.meter.now c.limit-limit.ensures.bits_high value.params c.len-params.result e room c.together.result
+    c.together.ensures.over c.together.ensures.printable

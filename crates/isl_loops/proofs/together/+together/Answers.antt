@@ -1,4 +1,4 @@
-use Rattle.std.proofs.Common.{◌≡◌, ◌<◌, ◌+◌, ◌∷◌, ◌∙◌, [], sym, ap, subst, arith, length, ℕ, List}
+use Rattle.std.proofs.Common.{◌≡◌, ◌<◌, ◌+◌, ◌^◌, ◌∷◌, ◌∙◌, [], sym, ap, subst, arith, length, ℕ, List}
 use Rattle.std.specs.Global.{Vec}
 use Rattle.std.proofs.lemmas.Grind.{common_steps}
 use Rattle.std.proofs.lemmas.List.Elements.{All-nil, All-weaker}
@@ -6,7 +6,9 @@ use Rattle.std.proofs.lemmas.Result.{err_from_is_err_and}
 use Rattle.isl_meter.proofs.CutLemmas.{IsCharged_trans, IsCutBy-after, IsCutBy-charged}
 use Rattle.isl_frame.proofs.NeededLaws.{over_later}
 use Rattle.isl_loop.specs.Formed.{IsLoopOver}
+use Rattle.isl_loop.specs.Printable.{IsPrintable}
 use Rattle.isl_loop.proofs.LimitLaws.{IsLoopOver-same}
+use Rattle.isl_loop.proofs.PrintLaws.{printable_of-Block}
 use Rattle.isl_nest.specs.Changing.{AsksWhatChanges}
 use Rattle.isl_nest.specs.Nest.{with_loop}
 use Rattle.isl_nest.specs.declared.item.Item.{Item}
@@ -20,7 +22,7 @@ use Rattle.isl_loops.specs.Together.{IsOver, ListsAll}
 use Rattle.isl_loops.proofs.CallLaws.{over_charged}
 use Rattle.isl_loops.proofs.GroupedLaws.{group_apart, group_has, made_all, made_more, made_none, made_same}
 use Rattle.isl_loops.proofs.OnlyLaws.{entry_lists, entry_long, entry_place}
-use Rattle.isl_loops.proofs.PartsLaws.{block_over, parts_asking}
+use Rattle.isl_loops.proofs.PartsLaws.{block_over, parts_all}
 use Rattle.isl_loops.proofs.SharedLaws.{inner_long, inner_place, shared_lists}
 use Rattle.isl_loops.proofs.together.+together.Goals as goal
 
@@ -36,6 +38,7 @@ loop-group-init t c =
           (subst (λ (gs : List (Vec Item)). AreGroupsOf place items [] gs) (sym same) made.ensures.groups) c.new-parts.ensures,
       made.ensures.meter,
       rw c.new-parts.ensures (All-nil (AsksWhatChanges place.variables)),
+      rw c.new-parts.ensures (All-nil (IsPrintable place.variables)),
     )
 
 pub one_by_one-requires-then-len-eq1-clause-place : goal.one_by_one-requires-then-len-eq1-clause-place
@@ -84,8 +87,10 @@ loop-group-preserved-then-len-eq1 t c =
           c.requires.low inner c.push.new.self tree c.in_ok-push.ensures.ok lists
           (IsLoopOver-same h g place.variables tree (sym (charged_bits g h c.loop-group.invariant.1)) c.in_ok-one_by_one.ensures.over),
       IsCharged_trans g h c.one_by_one-then-len-eq1.new.meter c.loop-group.invariant.1 c.in_ok-one_by_one.ensures.meter,
-      parts_asking place.variables c.loop-group.parts tree c.push.new.self c.in_ok-push.ensures.ok c.loop-group.invariant.2
+      parts_all (AsksWhatChanges place.variables) c.loop-group.parts tree c.push.new.self c.in_ok-push.ensures.ok c.loop-group.invariant.2
           c.in_ok-one_by_one.ensures.changing,
+      parts_all (IsPrintable place.variables) c.loop-group.parts tree c.push.new.self c.in_ok-push.ensures.ok c.loop-group.invariant.3
+          c.in_ok-one_by_one.ensures.printable,
     )
 
 pub shared-requires-clause-place : goal.shared-requires-clause-place
@@ -124,6 +129,7 @@ loop-group-preserved-in_default t c =
           c.requires.low inner (rw c.as_slice-in-loop-group.ensures.value at none),
       IsCharged_trans g h c.shared.new.meter c.loop-group.invariant.1 c.in_ok-around.ensures.meter,
       c.loop-group.invariant.2,
+      c.loop-group.invariant.3,
     )
 
 pub only_form-requires : goal.only_form-requires
@@ -201,9 +207,12 @@ loop-group-preserved-in-Some-3 t c =
           c.requires.low inner c.push-in-Some-3.new.self tree c.in_ok-push-2.ensures.ok lists tree_over,
       IsCharged_trans g h c.together.new.meter c.loop-group.invariant.1
           (IsCharged_trans h k c.together.new.meter c.in_ok-around.ensures.meter c.in_ok-tree.ensures.meter),
-      parts_asking place.variables c.loop-group.parts tree c.push-in-Some-3.new.self c.in_ok-push-2.ensures.ok c.loop-group.invariant.2
-          (subst (λ (v : ℕ). AsksWhatChanges v tree) (ap (λ (q : Place). q.variables) c.in_ok-behind.ensures)
+      parts_all (AsksWhatChanges place.variables) c.loop-group.parts tree c.push-in-Some-3.new.self c.in_ok-push-2.ensures.ok
+          c.loop-group.invariant.2 (subst (λ (v : ℕ). AsksWhatChanges v tree) (ap (λ (q : Place). q.variables) c.in_ok-behind.ensures)
           c.in_ok-tree.ensures.changing),
+      parts_all (IsPrintable place.variables) c.loop-group.parts tree c.push-in-Some-3.new.self c.in_ok-push-2.ensures.ok
+          c.loop-group.invariant.3 (subst (λ (v : ℕ). IsPrintable v tree) (ap (λ (q : Place). q.variables) c.in_ok-behind.ensures)
+          c.in_ok-tree.ensures.printable),
     )
 
 pub with_loop-requires : goal.with_loop-requires
@@ -278,15 +287,21 @@ loop-group-preserved t c =
     subst (λ (v : ℕ). IsLoopOver h v body) (ap (λ (q : Place). q.variables) c.in_ok-inner.ensures)
     (IsLoopOver-same k h c.in_ok-inner.inner.variables body (sym to_h) c.in_ok-body.ensures.over) in
     let tree_over = c.in_ok-for_loop.ensures.over h loop.over.low loop.over.high loop.over.positive loop.over.within
-    body_over in (
+    body_over in
+    let variables = c.requires.place.few in
+    let room = c.requires.room in
+    let few : place.variables + 1 < 2 ^ 64 = omega (arith, variables, inner, room) in (
       made_more g place c.args.items.items before c.loop-group.parts c.loop-group.invariant.0 group rest next p n c.requires.items
           c.requires.low inner c.push-in-loop-group.new.self tree c.in_ok-push-3.ensures.ok lists
           (IsLoopOver-same h g place.variables tree (sym to_g) tree_over),
       IsCharged_trans g h c.together-in-loop-group.new.meter c.loop-group.invariant.1
           (IsCharged_trans h k c.together-in-loop-group.new.meter c.in_ok-around.ensures.meter c.in_ok-body.ensures.meter),
-      parts_asking place.variables c.loop-group.parts tree c.push-in-loop-group.new.self c.in_ok-push-3.ensures.ok c.loop-group.invariant.2
-          (c.in_ok-for_loop.ensures.changing
+      parts_all (AsksWhatChanges place.variables) c.loop-group.parts tree c.push-in-loop-group.new.self c.in_ok-push-3.ensures.ok
+          c.loop-group.invariant.2 (c.in_ok-for_loop.ensures.changing
           (subst (λ (v : ℕ). AsksWhatChanges v body) (ap (λ (q : Place). q.variables) c.in_ok-inner.ensures) c.in_ok-body.ensures.changing)),
+      parts_all (IsPrintable place.variables) c.loop-group.parts tree c.push-in-loop-group.new.self c.in_ok-push-3.ensures.ok
+          c.loop-group.invariant.3 (c.in_ok-for_loop.ensures.printable few
+          (subst (λ (v : ℕ). IsPrintable v body) (ap (λ (q : Place). q.variables) c.in_ok-inner.ensures) c.in_ok-body.ensures.printable)),
     )
 
 pub returns-clause-lists : goal.returns-clause-lists
@@ -363,3 +378,6 @@ returns-clause-alone t c item only =
     let several : 1 < length c.args.items.items = grind (arith, common_steps) in
     let one = ap length only in
     absurd (omega (arith, several, one))
+
+pub returns-clause-printable : goal.returns-clause-printable
+returns-clause-printable t c = printable_of-Block c.args.place.now.variables c.loop-group.parts c.loop-group.invariant.3

@@ -4,7 +4,9 @@ use Rattle.std.proofs.lemmas.List.Elements.{All-nil}
 use Rattle.isl_meter.proofs.CutLemmas.{IsCharged_refl, IsCharged_trans}
 use Rattle.isl_loop.specs.declared.tree.Loop.{Block}
 use Rattle.isl_loop.specs.Formed.{IsLoopOver}
+use Rattle.isl_loop.specs.Printable.{IsPrintable}
 use Rattle.isl_loop.proofs.LimitLaws.{IsLoopOver-same}
+use Rattle.isl_loop.proofs.PrintLaws.{printable_of-Block}
 use Rattle.isl_nest.specs.declared.item.Item.{Item}
 use Rattle.isl_nest.specs.Changing.{AsksWhatChanges}
 use Rattle.isl_nest.specs.Covered.{view_of}
@@ -15,7 +17,7 @@ use Rattle.isl_nest.proofs.PlaceLaws.{place_later}
 use Rattle.isl_loops.specs.Together.{IsOver}
 use Rattle.isl_loops.proofs.AloneLaws.{alone_more, alone_none, IsAloneOf}
 use Rattle.isl_loops.proofs.CallLaws.{all_at, over_charged}
-use Rattle.isl_loops.proofs.PartsLaws.{block_none, block_over, lists_done, lists_nothing, lists_one_more, parts_asking, parts_over}
+use Rattle.isl_loops.proofs.PartsLaws.{block_none, block_over, lists_done, lists_nothing, lists_one_more, parts_all, parts_over}
 use Rattle.isl_loops.proofs.together.one_by_one.Goals as goal
 
 pub loop-item-init : goal.loop-item-init
@@ -25,6 +27,7 @@ loop-item-init c = (
   IsCharged_refl c.args.meter.now c.args.meter.now refl,
   alone_none c.args.place.now c.new-parts.result c.new-parts.ensures,
   rw c.new-parts.ensures (All-nil (AsksWhatChanges c.args.place.now.variables)),
+  rw c.new-parts.ensures (All-nil (IsPrintable c.args.place.now.variables)),
 )
 
 pub separate-requires-clause-item : goal.separate-requires-clause-item
@@ -112,7 +115,10 @@ loop-item-preserved c =
       alone_more place items i item low c.item-item.is parts made tree c.in_ok-push.ensures.ok c.loop-item.invariant.3
           (subst (λ n. IsSeparate (view_of item) (item.params + item.levels - n) place tree) c.len-columns.ensures
           c.in_ok-separate.ensures.separate),
-      parts_asking place.variables parts tree made c.in_ok-push.ensures.ok c.loop-item.invariant.4 c.in_ok-separate.ensures.changing,
+      parts_all (AsksWhatChanges place.variables) parts tree made c.in_ok-push.ensures.ok c.loop-item.invariant.4
+          c.in_ok-separate.ensures.changing,
+      parts_all (IsPrintable place.variables) parts tree made c.in_ok-push.ensures.ok c.loop-item.invariant.5
+          c.in_ok-separate.ensures.printable,
     )
 
 pub returns-clause-lists : goal.returns-clause-lists
@@ -131,3 +137,6 @@ returns-clause-over c = block_over c.args.meter.now c.args.place.now.variables c
 
 pub returns-clause-changing : goal.returns-clause-changing
 returns-clause-changing c = changing_of-Block c.args.place.now.variables c.loop-item.parts c.loop-item.invariant.4
+
+pub returns-clause-printable : goal.returns-clause-printable
+returns-clause-printable c = printable_of-Block c.args.place.now.variables c.loop-item.parts c.loop-item.invariant.5

@@ -1,7 +1,11 @@
-use Rattle.std.proofs.Common.{◌≡◌, ◌+◌, ◌<◌, subst, arith, List, length, get_or}
+use Rattle.std.proofs.Common.{◌≡◌, ◌+◌, ◌<◌, ◌≤◌, ap, sym, subst, arith, List, Option, length, get_or}
+use Rattle.std.specs.Prelude.{IfSome}
 use Rattle.std.proofs.lemmas.Grind.{common_steps}
+use Rattle.isl_space.specs.Name.{Name, IsLiteralName}
 use Rattle.isl_piece.specs.declared.row.Row.{Row}
-use Rattle.isl_nest.proofs.CalledLaws.{arguments_more, entry_formed, entry_within}
+use Rattle.isl_loop.specs.declared.tree.Loop.{Call}
+use Rattle.isl_nest.specs.Covered.{view_of}
+use Rattle.isl_nest.proofs.CalledLaws.{arguments_more, call_is, entry_formed, entry_within}
 use Rattle.isl_nest.proofs.loops.call.Goals as goal
 
 pub loop-i-preserved : goal.loop-i-preserved
@@ -25,3 +29,19 @@ loop-i-preserved c =
     let over = c.in_ok-divided.ensures.over g place.variables c.limit-limit.ensures.bits_low within formed.width in
     arguments_more g place c.requires.place at entry room read arguments i c.loop-i.arguments c.in_ok-divided.field-0 c.push.new.self low here
     c.loop-i.invariant over (λ point e. c.in_ok-divided.ensures.value point e) c.in_ok-push.ensures.ok
+
+pub returns-clause-call : goal.returns-clause-call
+returns-clause-call c =
+    let item = view_of c.args.item.now in
+    let exprs = c.loop-i.arguments in
+    let name = c.in_ok-name_of.field-0 in
+    let end : length item.arguments ≤ c.loop-i.i = omega arith in
+    (call_is item c.args.place.now exprs (Call name exprs) c.args.meter.now c.loop-i.i
+    (ap (λ (n : Option Name). Call n exprs) c.in_ok-name_of.ensures) end c.loop-i.invariant).0
+
+pub returns-clause-over : goal.returns-clause-over
+returns-clause-over c = c.loop-i.invariant.over
+
+pub returns-clause-printable : goal.returns-clause-printable
+returns-clause-printable c n =
+    subst (λ (name : Option Name). IfSome name IsLiteralName) (sym c.in_ok-name_of.ensures) c.requires.item.is.named

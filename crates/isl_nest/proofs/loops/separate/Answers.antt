@@ -9,6 +9,8 @@ use Rattle.isl_frame.specs.Needed.{AreRowsOver}
 use Rattle.isl_frame.proofs.NeededLaws.{kept_have, over_later}
 use Rattle.isl_loop.specs.declared.tree.Loop.{Block}
 use Rattle.isl_loop.specs.Formed.{IsRowOver}
+use Rattle.isl_loop.specs.Printable.{IsPrintable}
+use Rattle.isl_loop.proofs.PrintLaws.{empty_printable}
 use Rattle.isl_nest.specs.declared.place.Place.{Place}
 use Rattle.isl_nest.specs.Changing.{AsksWhatChanges}
 use Rattle.isl_nest.specs.Covered.{view_of}
@@ -347,3 +349,19 @@ returns-clause-changing c =
     let asks : AsksWhatChanges inner.variables nested.tree = rw c.in-Some-2.is at c.in_ok-nested.ensures.changing in
     c.in_ok-under.ensures.changing n
     (subst (λ (v : ℕ). AsksWhatChanges v nested.tree) (ap (λ (p : Place). p.variables) c.in_ok-inner.ensures) asks)
+
+pub returns-in_default-clause-printable : goal.returns-in_default-clause-printable
+returns-in_default-clause-printable c = empty_printable c.args.place.now.variables c.new.result c.new.ensures
+
+pub returns-in_default-2-clause-printable : goal.returns-in_default-2-clause-printable
+returns-in_default-2-clause-printable c =
+    empty_printable c.args.place.now.variables c.new-in_default-2.result c.new-in_default-2.ensures
+
+pub returns-clause-printable : goal.returns-clause-printable
+returns-clause-printable c =
+    let n = c.args.place.now.variables in
+    let inner = c.in_ok-inner.inner in
+    let nested = c.in-Some-2.nested in
+    let below : IsPrintable inner.variables nested.tree = rw c.in-Some-2.is at c.in_ok-nested.ensures.printable in
+    c.in_ok-under.ensures.printable n
+    (subst (λ (v : ℕ). IsPrintable v nested.tree) (ap (λ (p : Place). p.variables) c.in_ok-inner.ensures) below)

@@ -57,3 +57,9 @@ returns-clause-idle c point long =
     (λ whole around. front_idle c.args.variables c.of-opened.result.rows parted.outside parted.inside c.args.body c.of-opened.result.tree
     c.in_ok-inner.inner c.in_ok-made.made whole xs point long c.in_ok-parted.ensures c.of-opened.ensures c.in_ok-inner.ensures.runs around
     (c.in_ok-made.ensures.idle point)) c.under-2.ensures.runs
+
+pub returns-clause-printable : goal.returns-clause-printable
+returns-clause-printable c few body =
+    let v = c.args.variables in
+    c.under-2.ensures.printable v
+    (c.in_ok-made.ensures.printable v few (c.in_ok-inner.ensures.printable (v + 1) (c.of-opened.ensures.printable (v + 1) body)))

@@ -3,6 +3,8 @@ use Rattle.std.specs.Int.{w128}
 use Rattle.std.specs.List.{All}
 use Rattle.std.proofs.lemmas.Grind.{common_steps}
 use Rattle.isl_loop.specs.declared.tree.Loop.{Loop}
+use Rattle.isl_loop.specs.Printable.{IsPrintable}
+use Rattle.isl_loop.proofs.PrintLaws.{printable_of-For}
 use Rattle.isl_piece.specs.Row.{coef_at}
 use Rattle.isl_nest.specs.Changing.{asked_first, AsksWhatChanges}
 use Rattle.isl_nest.proofs.ChangingLaws.{changing_of-For}
@@ -46,3 +48,8 @@ returns-clause-changing c n name asks =
     changing_of-For n c.args.head.low c.args.head.high (to_z w128 (of_z w128 c.args.head.step)) c.in_ok-new.field-0
     (subst (λ (l : Loop). All (λ r. coef_at r n ≢ pos 0) (asked_first l)) (sym c.in_ok-new.ensures) name)
     (subst (λ (l : Loop). AsksWhatChanges (n + 1) l) (sym c.in_ok-new.ensures) asks)
+
+pub returns-clause-printable : goal.returns-clause-printable
+returns-clause-printable c n few h =
+    printable_of-For n c.args.head.low c.args.head.high (to_z w128 (of_z w128 c.args.head.step)) c.in_ok-new.field-0 few
+    (subst (λ (l : Loop). IsPrintable (n + 1) l) (sym c.in_ok-new.ensures) h)

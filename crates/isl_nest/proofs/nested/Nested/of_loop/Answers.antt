@@ -25,3 +25,7 @@ pub returns-clause-changing : goal.returns-clause-changing
 returns-clause-changing c body =
     let n = c.args.variables in
     c.in_ok-for_loop.ensures.changing (c.in_ok-tree.ensures.changing (n + 1) body)
+
+pub returns-clause-printable : goal.returns-clause-printable
+returns-clause-printable c few body =
+    c.in_ok-for_loop.ensures.printable few (c.in_ok-tree.ensures.printable (c.args.variables + 1) body)

@@ -1,6 +1,0 @@
-use Rattle.std.proofs.Common.{take}
-use Rattle.isl_covers.specs.Level.{AreEndedOf}
-use Rattle.isl_covers.proofs.level.Level.ended.Given as goal
-
-abbrev pub invariant-loop-system : goal.invariant-loop-system
-invariant-loop-system l = AreEndedOf (take l.system-index l.systems) l.kept

@@ -1,3 +1,0 @@
-pub mod CalledLaws
-pub mod CoverLaws
-pub mod ItemsLaws

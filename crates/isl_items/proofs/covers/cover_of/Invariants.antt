@@ -1,6 +1,0 @@
-use Rattle.std.proofs.Common.{◌≡◌, map, take}
-use Rattle.isl_items.specs.Covers.{rows_of}
-use Rattle.isl_items.proofs.covers.cover_of.Given as goal
-
-abbrev pub invariant-loop-system : goal.invariant-loop-system
-invariant-loop-system l = l.cover ≡ map rows_of (take l.system-index l.systems)

@@ -1,8 +1,0 @@
-use Rattle.std.proofs.Common.{take}
-use Rattle.std.specs.List.{AllZip}
-use Rattle.isl_meter.specs.Gauge.{IsCharged}
-use Rattle.isl_items.specs.Items.{IsItemOf}
-use Rattle.isl_items.proofs.items.all_items.Given as goal
-
-abbrev pub invariant-loop-one : goal.invariant-loop-one
-invariant-loop-one l = AllZip (IsItemOf l.fn.meter l.params) (take l.one-index l.calls) l.items.items × IsCharged l.fn.meter l.meter
