@@ -12,9 +12,10 @@ ghost use Rattle.isl_alternatives.specs.Restricted.{IsOver, IsBodyOf, AreProject
 
 use crate::lists::append;
 use isl_affine::{Scope, with_entry};
-use isl_elim::{columns_between, eliminate_all, with_fewer_rows};
+use isl_elim::{columns_between, with_fewer_rows};
 use isl_meter::{Cut, Meter};
 use isl_piece::System;
+use isl_quotient::project;
 use isl_tree::tree::Binder;
 use std::alloc::Global;
 
@@ -99,7 +100,7 @@ pub(crate) fn projected(
         let Some(few) = with_fewer_rows(alloc, system, columns.as_slice(), meter)? else {
             continue;
         };
-        let mut more = eliminate_all(alloc, &few, columns.as_slice(), meter)?;
+        let mut more = project(alloc, &few, columns.as_slice(), meter)?;
         append(&mut found, &mut more)?;
     }
     Ok(found)

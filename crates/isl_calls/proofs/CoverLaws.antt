@@ -2,15 +2,13 @@
 use Rattle.std.proofs.Common.{◌≡◌, inl, inr, refl, sym, ap, ◌∙◌, subst, arith, ℕ, ◌+◌, ◌-◌, ◌<◌, ◌≤◌, ◌^◌, ℤ, pos, neg_ℤ, ◌<ℤ◌, Bool, true, false}
 use Rattle.std.proofs.Common.{List, [], ◌∷◌, ◌++◌, length, length-append, get_or, map, take}
 use Rattle.std.specs.List.{All, Any}
-use Rattle.std.specs.Prelude.{IfSome}
 use Rattle.std.proofs.lemmas.List.{get_or-map, length-map, map-append, take_all, take_more}
 use Rattle.std.proofs.lemmas.List.Elements.{All-map}
 use Rattle.std.proofs.lemmas.List.FromFn.{get_or-range_with_len, length-range_with_len}
 use Rattle.isl_math.proofs.ListLaws.{Any-weaker}
 use Rattle.isl_math.proofs.Ring.{linear}
 use Rattle.isl_meter.specs.Gauge.{Gauge}
-use Rattle.isl_space.specs.Form.{Form, leaf, pair, width_of, IsNamed}
-use Rattle.isl_space.specs.Name.{IsLiteralName}
+use Rattle.isl_space.specs.Form.{width_of}
 use Rattle.isl_space.specs.Shape.{form_of}
 use Rattle.isl_piece.specs.declared.row.Row.{Row}
 use Rattle.isl_piece.specs.declared.row.RowKind.{RowKind}
@@ -33,7 +31,6 @@ use Rattle.isl_calls.specs.Apart.{called_form}
 use Rattle.isl_calls.specs.Calls.{width_behind, AreCalls}
 use Rattle.isl_calls.specs.CoverRows.{covers_of, rows_of}
 use Rattle.isl_calls.proofs.CalledLaws.{item_view}
-use Rattle.isl_schedule.specs.Due.{name_of}
 
 -- ---- lists that are made in a loop
 pub mapped_more : {A B : Type 0} (f : A → B) (xs : List A) (i : ℕ) (x : A) (ys pushed : List B) (y : B) → i < length xs → x ≡ get_or xs i x
@@ -87,11 +84,6 @@ system_rows g t columns within plain free = record {
   within = within.within;
 }
 
--- ---- names
-leaf_named : (form : Form) → IsNamed form → IfSome (name_of form) IsLiteralName
-leaf_named (leaf name width) named = named
-leaf_named (pair left right) named = tt
-
 -- ---- what calls and covers make
 module _ (g : Gauge) (params : ℕ) (c : Calls) (are : AreCalls g params c) where
   abbrev view : ItemView
@@ -128,7 +120,6 @@ module _ (g : Gauge) (params : ℕ) (c : Calls) (are : AreCalls g params c) wher
       let start = (params + W) - D in
       let n = length-range_with_len start D in
       record {
-        named = leaf_named (called_form c) are.named;
         formed = (system_rows g c.system (params + W) are.within are.plain are.free).formed;
         times = fit.0;
         arguments = λ i d l.

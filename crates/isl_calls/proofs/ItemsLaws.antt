@@ -1,10 +1,12 @@
 -- The items of a value.
 use Rattle.std.proofs.Common.{◌≡◌, ◌↔◌, refl, sym, ap, ◌∙◌, subst, arith, ℕ, zero, suc, ◌+◌, ◌<◌, ◌≤◌, Bool, true, List, [], ◌∷◌, length, get_or}
 use Rattle.std.specs.List.{All, AllPairs, AllZip, Any}
+use Rattle.std.specs.Prelude.{IfSome}
 use Rattle.isl_math.proofs.ListLaws.{All-zipped, AllZip-weaker, Any-contains, Any-element, Any-zipped}
 use Rattle.isl_meter.specs.Gauge.{Gauge, IsCharged}
-use Rattle.isl_space.specs.Form.{Form, width_of}
+use Rattle.isl_space.specs.Form.{Form, leaf, pair, width_of, IsNamed}
 use Rattle.isl_space.specs.Limits.{most_coordinates}
+use Rattle.isl_space.specs.Name.{IsLiteralName}
 use Rattle.isl_space.specs.Shape.{form_of}
 use Rattle.isl_space.specs.Valuation.{Valuation, values_of}
 use Rattle.isl_piece.specs.declared.row.Row.{Row}
@@ -30,6 +32,10 @@ use Rattle.isl_calls.specs.Items.{AreItemsOf, CallsAt, IsItemOf, IsOnlyItem}
 use Rattle.isl_calls.proofs.CalledLaws.{called_behind, item_view}
 
 -- ---- one item
+leaf_named : (form : Form) → IsNamed form → IfSome (name_of form) IsLiteralName
+leaf_named (leaf name width) named = named
+leaf_named (pair left right) named = tt
+
 module _ (g : Gauge) (params : ℕ) (c : Calls) (are : AreCalls g params c) (item : Item) (is : view_of item ≡ item_view params c)
     (covered : IsCovered g item) where
   pub item_made : IsItemOf g params c item
@@ -38,6 +44,7 @@ module _ (g : Gauge) (params : ℕ) (c : Calls) (are : AreCalls g params c) (ite
     params_are = ap (λ (v : ItemView). v.params) is;
     times = ap (λ (v : ItemView). v.times) is;
     rows_are = ap (λ (v : ItemView). v.rows) is;
+    named = subst (λ (v : ItemView). IfSome v.name IsLiteralName) (sym is) (leaf_named (called_form c) are.named);
     own = λ e. ap (λ (v : ItemView). v.levels) is
         ∙ ap (λ (b : Bool). width_behind b (width_of (called_form c)) (width_of (form_of c.time.value))) e
         ∙ sym (ap (λ (v : ItemView). v.times) is);
@@ -148,6 +155,8 @@ module _ (g : Gauge) (value : KeptValue) (calls : List Calls) (are : AreCallsOf 
         (λ a b x y r s e. r.times ∙ ap width_of e ∙ sym s.times) calls items zipped are.alike.times;
     narrow = All-zipped (IsItemOf g n) (AreCalls g n) (λ item. item.times ≤ most_coordinates)
         (λ c item r a. subst (λ k. k ≤ most_coordinates) (sym r.times) a.narrow.1) calls items zipped are.each;
+    named = All-zipped (IsItemOf g n) (λ c. Unit {0}) (λ item. IfSome item.name IsLiteralName) (λ c item r u. r.named) calls items zipped
+        trivial;
     exact = items_exact;
     once = items_once;
     sets = λ all. All-zipped (IsItemOf g n) (λ (c : Calls). c.is_own ≡ true) (λ item. item.levels ≡ item.times) (λ c item r e. r.own e) calls items
@@ -199,6 +208,7 @@ item_kept g h params c item charged r = record {
   params_are = r.params_are;
   times = r.times;
   rows_are = r.rows_are;
+  named = r.named;
   own = r.own;
   called = r.called;
 }

@@ -1,7 +1,8 @@
 //! The items of a value.
 
-ghost use Rattle.std.specs.Prelude.{All, IfOk, MatchResult};
+ghost use Rattle.std.specs.Prelude.{◌≡◌, ◌↔◌, ◌+◌, ◌-◌, ◌*◌, IsTrue, All, IfOk, MatchResult, length, min};
 ghost use Rattle.std.specs.List.{AllZip};
+ghost use Rattle.isl_difference.specs.Weight.{AreTooHeavy};
 ghost use Rattle.isl_meter.specs.Gauge.{IsCharged, IsMetered};
 ghost use Rattle.isl_union.specs.KeptValue.{HasNoDefinitions};
 ghost use Rattle.isl_union.specs.Numbers.{IsWithinLimit};
@@ -20,7 +21,10 @@ use isl_union::Value;
 use std::alloc::Global;
 
 // Whether so many items like one of these calls, each with a cover of each level, take more memory than is kept.
-fn have_too_many(items: usize, params: usize, calls: &Calls) -> bool {
+fn have_too_many(items: usize, params: usize, calls: &Calls) -> bool
+    ensures { IsTrue result ↔ AreTooHeavy (min (items * (calls.now.system.columns - params)) usize.MAX * (length calls.now.system.rows + 1))
+        calls.now.system.columns }
+{
     let levels = calls.system.columns.saturating_sub(params);
     are_too_many(items.saturating_mul(levels), &calls.system)
 }

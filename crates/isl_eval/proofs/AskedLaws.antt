@@ -1,12 +1,12 @@
 -- What is asked for, at the constructors of the code.
 use Rattle.std.proofs.Common.{◌≡◌, ◌∙◌, refl, sym, ap, Bool, true, false, List, [], ◌∷◌, ◌++◌, length}
 use Rattle.std.proofs.lemmas.List.{nil_from_length}
-use Rattle.isl_expr.specs.declared.tree.Prefix.{Prefix as Word}
-use Rattle.isl_expr.specs.declared.tree.Prefix.TheVariants as p
-use Rattle.isl_expr.specs.declared.tree.Link.{Link}
-use Rattle.isl_expr.specs.declared.tree.Expr.{Expr, Row, items_hidden-the_row-Link-1}
-use Rattle.isl_expr.specs.declared.tree.Expr.TheBlock.{hidden-the_row-Expr-0, hidden-the_row-Link-1}
-use Rattle.isl_expr.specs.declared.tree.Expr as e
+use Rattle.isl_tree.specs.declared.statement.Prefix.{Prefix as Word}
+use Rattle.isl_tree.specs.declared.statement.Prefix.TheVariants as p
+use Rattle.isl_tree.specs.declared.statement.Link.{Link}
+use Rattle.isl_tree.specs.declared.statement.Expr.{Expr, Row, items_hidden-the_row-Link-1}
+use Rattle.isl_tree.specs.declared.statement.Expr.TheBlock.{hidden-the_row-Expr-0, hidden-the_row-Link-1}
+use Rattle.isl_tree.specs.declared.statement.Expr as e
 use Rattle.isl_flat.specs.Flat.{is_sample}
 use Rattle.isl_eval.specs.Tests.{is_test}
 use Rattle.isl_eval.specs.Asked.{is_at_numbers, is_of_operand, question_of, shows_at_numbers}

@@ -35,8 +35,8 @@ use Rattle.isl_values.proofs.OutcomeLaws.{operation_goes}
 use Rattle.isl_values.proofs.UnderLaws.{has_same, operands_part}
 use Rattle.isl_values.proofs.ValueLaws.{same_limit}
 use Rattle.isl_values.specs.State.{StateView}
-use Rattle.isl_expr.specs.declared.tree.Binary.{Binary}
-use Rattle.isl_expr.specs.declared.tree.Binary.TheVariants as b
+use Rattle.isl_tree.specs.declared.statement.Binary.{Binary}
+use Rattle.isl_tree.specs.declared.statement.Binary.TheVariants as b
 use Rattle.isl_eval.specs.Tests.{IsPartOf, TestHolds}
 use Rattle.isl_eval.specs.Evaluation.{EndsTwo, IsChosen, IsGistIn, IsPutAt, Tells}
 

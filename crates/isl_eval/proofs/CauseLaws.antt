@@ -10,7 +10,7 @@ use Rattle.isl_token.specs.Spelling.{Spells}
 use Rattle.isl_refusal.specs.declared.refusal.Refusal.{Refusal}
 use Rattle.isl_refusal.specs.declared.refusal.Refusal.TheVariants as r
 use Rattle.isl_text.specs.Read.{has_wide_number}
-use Rattle.isl_expr.specs.declared.tree.Stmt.{Stmt}
+use Rattle.isl_tree.specs.declared.statement.Stmt.{Stmt}
 use Rattle.isl_stmt.specs.StatementGrammar.{statement_grammar}
 use Rattle.isl_stmt.specs.Limits.{statement_is_within}
 use Rattle.isl_stmt.specs.Read.{NoStatement, judged, IsDueTo, IsDue}

@@ -7,16 +7,16 @@ use Rattle.std.proofs.lemmas.List.Elements.{All-nil, All-cons, All-append}
 use Rattle.isl_space.specs.Name.{Name}
 use Rattle.isl_refusal.specs.declared.refusal.Refusal.TheVariants as r
 use Rattle.isl_lower.specs.Value.{IsWellFormedLiteral}
-use Rattle.isl_expr.specs.declared.tree.Binary.TheVariants.{Gist}
-use Rattle.isl_expr.specs.declared.tree.Prefix.TheVariants.{Sample}
-use Rattle.isl_expr.specs.declared.tree.ValueKind.{ValueKind}
-use Rattle.isl_expr.specs.declared.tree.ValueKind.TheVariants as k
-use Rattle.isl_expr.specs.declared.tree.Stmt.{Stmt}
-use Rattle.isl_expr.specs.declared.tree.Stmt.TheVariants.{Empty, Bind, Show, Assume}
-use Rattle.isl_expr.specs.declared.tree.Expr.{Expr}
-use Rattle.isl_expr.specs.declared.tree.Expr.TheBlock.{hidden-the_row-Expr-0}
-use Rattle.isl_expr.specs.declared.tree.Expr as e
-use Rattle.isl_expr.specs.Expr.{statement_literals}
+use Rattle.isl_tree.specs.declared.statement.Binary.TheVariants.{Gist}
+use Rattle.isl_tree.specs.declared.statement.Prefix.TheVariants.{Sample}
+use Rattle.isl_tree.specs.declared.statement.ValueKind.{ValueKind}
+use Rattle.isl_tree.specs.declared.statement.ValueKind.TheVariants as k
+use Rattle.isl_tree.specs.declared.statement.Stmt.{Stmt}
+use Rattle.isl_tree.specs.declared.statement.Stmt.TheVariants.{Empty, Bind, Show, Assume}
+use Rattle.isl_tree.specs.declared.statement.Expr.{Expr}
+use Rattle.isl_tree.specs.declared.statement.Expr.TheBlock.{hidden-the_row-Expr-0}
+use Rattle.isl_tree.specs.declared.statement.Expr as e
+use Rattle.isl_tree.specs.Expr.{statement_literals}
 use Rattle.isl_kinds.specs.declared.types.Purpose.TheVariants as purpose
 use Rattle.isl_kinds.specs.Typed.{TypeView, ScopeView, is_dollar, has_unknown, kind_of}
 use Rattle.isl_kinds.specs.Typed.{declared_of, kind_for, with_params, type_for, type_of_statement}

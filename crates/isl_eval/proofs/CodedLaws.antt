@@ -10,6 +10,7 @@ use Rattle.isl_words.specs.Options.{OptionsView}
 use Rattle.isl_loop.specs.declared.tree.Loop.{Loop}
 use Rattle.isl_loop.specs.Formed.{IsLoopOver}
 use Rattle.isl_loop.specs.Good.{AreGood}
+use Rattle.isl_loop.specs.Program.{IsProgram}
 use Rattle.isl_loop.specs.Run.{trace}
 use Rattle.isl_loop.proofs.LimitLaws.{IsLoopOver-same}
 use Rattle.isl_schedule.specs.Refused.{IsRefused}
@@ -21,12 +22,12 @@ use Rattle.isl_union.specs.KeptValue.{KeptValue, Has, IsKeptValue}
 use Rattle.isl_assumed.specs.declared.assumed.Assumed.{Assumed}
 use Rattle.isl_assumed.specs.declared.assumed.Assumed.TheVariants.{Nothing, Where}
 use Rattle.isl_assumed.specs.Assumed.{Assumes}
-use Rattle.isl_expr.specs.declared.tree.Prefix.{Prefix as Word}
-use Rattle.isl_expr.specs.declared.tree.Prefix.TheVariants as p
-use Rattle.isl_expr.specs.declared.tree.Expr.{Expr}
-use Rattle.isl_expr.specs.declared.tree.Expr.TheBlock.{hidden-the_row-Expr-0}
-use Rattle.isl_expr.specs.declared.tree.Expr as e
-use Rattle.isl_expr.specs.declared.tree.Stmt.TheVariants.{Show}
+use Rattle.isl_tree.specs.declared.statement.Prefix.{Prefix as Word}
+use Rattle.isl_tree.specs.declared.statement.Prefix.TheVariants as p
+use Rattle.isl_tree.specs.declared.statement.Expr.{Expr}
+use Rattle.isl_tree.specs.declared.statement.Expr.TheBlock.{hidden-the_row-Expr-0}
+use Rattle.isl_tree.specs.declared.statement.Expr as e
+use Rattle.isl_tree.specs.declared.statement.Stmt.TheVariants.{Show}
 use Rattle.isl_kinds.specs.Typed.{declared_of}
 use Rattle.isl_values.specs.Live.{IsUnderOf}
 use Rattle.isl_values.specs.State.{Moment, StateView, scope_of}
@@ -121,8 +122,9 @@ module _ (state : StateView) (names : List Name) (P : Valuation → Element → 
         tree,
         IsLoopOver-same h g (length names) tree (sym (ap (λ (k : Gauge). k.bits) charged.same))
             (subst (λ (ns : List Name). IsLoopOver h (length ns) tree) named code.1.0),
+        subst (λ (ns : List Name). IsProgram ns tree) named code.1.1,
         (λ v here. subst (λ (ns : List Name). AreGood (λ event time. IsDue (P v) (time, event)) (trace tree (values_of ns v))) named
-            (good_alike (Has under v) (P v) (trace tree (values_of under.params v)) (under_here under is v here) (code.1.1 v))),
+            (good_alike (Has under v) (P v) (trace tree (values_of under.params v)) (under_here under is v here) (code.1.2 v))),
         code.2 ∙ ap (λ (ns : List Name). code_text options ns tree) named,
       )
 

@@ -6,11 +6,11 @@ use Rattle.isl_space.specs.SpaceForm.{SpaceForm}
 use Rattle.isl_space.specs.Valuation.{Valuation}
 use Rattle.isl_space.specs.Element.{Element}
 use Rattle.isl_union.specs.KeptValue.{KeptValue, Has}
-use Rattle.isl_expr.specs.declared.tree.Binary.{Binary}
-use Rattle.isl_expr.specs.declared.tree.Binary.TheVariants as b
-use Rattle.isl_expr.specs.declared.tree.Prefix.{Prefix as Word}
-use Rattle.isl_expr.specs.declared.tree.Link.{Link}
-use Rattle.isl_expr.specs.declared.tree.Expr.{Expr, Prefix}
+use Rattle.isl_tree.specs.declared.statement.Binary.{Binary}
+use Rattle.isl_tree.specs.declared.statement.Binary.TheVariants as b
+use Rattle.isl_tree.specs.declared.statement.Prefix.{Prefix as Word}
+use Rattle.isl_tree.specs.declared.statement.Link.{Link}
+use Rattle.isl_tree.specs.declared.statement.Expr.{Expr, Prefix}
 use Rattle.isl_kinds.specs.Typed.{declared_of, declared_of_row, joined_names}
 use Rattle.isl_operators.specs.Operations.{WordMisses}
 use Rattle.isl_operators.specs.Formed.{OperatorForms, PairsWide, WordForms, FormsWide}

@@ -21,3 +21,5 @@ pub mod NumberLaws
 pub mod VisitLaws
 pub mod CodedLaws
 pub mod TakenLaws
+pub mod UnaskedLaws
+pub mod ParamsLaws

@@ -10,15 +10,15 @@ use Rattle.isl_token.specs.Spelling.{Grammar}
 use Rattle.isl_tree.specs.declared.tree.Literal.{Literal}
 use Rattle.isl_text.specs.Literal.{literal_grammar}
 use Rattle.isl_text.specs.Formed.{is_formed}
-use Rattle.isl_expr.specs.declared.tree.Stmt.{Stmt}
-use Rattle.isl_expr.specs.declared.tree.Stmt.TheVariants.{Empty, Bind, Show, Assume}
-use Rattle.isl_expr.specs.declared.tree.Link.{Link}
-use Rattle.isl_expr.specs.declared.tree.Postfix.{Postfix}
-use Rattle.isl_expr.specs.declared.tree.Postfix.TheVariants.{Inverse, Apply, Item}
-use Rattle.isl_expr.specs.declared.tree.Expr.{Expr}
-use Rattle.isl_expr.specs.declared.tree.Expr.TheVariants as e
-use Rattle.isl_expr.specs.Expr.{literals_of, links_literals, postfixes_literals, literals_in_postfix, statement_literals}
-use Rattle.isl_expr.proofs.Literals.{literals_of-Prefix, literals_of-Row, literals_of-Post, literals_of-Any, literals_of-Last}
+use Rattle.isl_tree.specs.declared.statement.Stmt.{Stmt}
+use Rattle.isl_tree.specs.declared.statement.Stmt.TheVariants.{Empty, Bind, Show, Assume}
+use Rattle.isl_tree.specs.declared.statement.Link.{Link}
+use Rattle.isl_tree.specs.declared.statement.Postfix.{Postfix}
+use Rattle.isl_tree.specs.declared.statement.Postfix.TheVariants.{Inverse, Apply, Item}
+use Rattle.isl_tree.specs.declared.statement.Expr.{Expr}
+use Rattle.isl_tree.specs.declared.statement.Expr.TheVariants as e
+use Rattle.isl_tree.specs.Expr.{literals_of, links_literals, postfixes_literals, literals_in_postfix, statement_literals}
+use Rattle.isl_tree.proofs.Literals.{literals_of-Prefix, literals_of-Row, literals_of-Post, literals_of-Any, literals_of-Last}
 use Rattle.isl_stmt.specs.declared.expression.Flow.{Flow}
 use Rattle.isl_stmt.specs.declared.expression.Flow.TheVariants as flow
 use Rattle.isl_stmt.specs.declared.operator.Precedence.{Precedence}
@@ -32,7 +32,7 @@ use Rattle.isl_formula.proofs.SpelledLaws.{Has, whatever, pure_has, bind_has, th
 use Rattle.isl_text.proofs.DivisorLaws.{IsDivided, outline_divided}
 use Rattle.isl_formula.specs.FormulaGrammar.{formula}
 use Rattle.isl_text.specs.Piece.{make_literal}
-use Rattle.isl_lower_params.specs.Params.{HasNoCoordinates}
+use Rattle.isl_eval.specs.Params.{HasNoCoordinates}
 use Rattle.isl_text.specs.PsetGrammar.{pset_grammar}
 use Rattle.isl_text.specs.PsetGrammar as psets_grammar
 use Rattle.isl_text.proofs.PsetSpelled as psets

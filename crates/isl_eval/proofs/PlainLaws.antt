@@ -7,16 +7,16 @@ use Rattle.std.specs.List.{list_all, list_any}
 use Rattle.std.specs.Option.{option_and_then, option_map_or}
 use Rattle.std.proofs.lemmas.Bool.{false≢true, and_parts, or_parts}
 use Rattle.std.proofs.lemmas.List.Folds.{list_any-append}
-use Rattle.isl_expr.specs.declared.tree.Binary.{Binary}
-use Rattle.isl_expr.specs.declared.tree.Binary.TheVariants as b
-use Rattle.isl_expr.specs.declared.tree.Prefix.{Prefix as Word}
-use Rattle.isl_expr.specs.declared.tree.Prefix.TheVariants as p
-use Rattle.isl_expr.specs.declared.tree.ValueKind.{ValueKind}
-use Rattle.isl_expr.specs.declared.tree.ValueKind.TheVariants.{Set, Map, List as Pair, Empty, Truth, Listing, Code}
-use Rattle.isl_expr.specs.declared.tree.Postfix.{Postfix, Inverse, Apply, Item}
-use Rattle.isl_expr.specs.declared.tree.Expr as e
-use Rattle.isl_expr.specs.declared.tree.Expr.{Expr, Row', Prefix', Any', Last', Post', Row_of-Expr, end_of-Expr, more_of-Expr}
-use Rattle.isl_expr.specs.declared.tree.Expr.{Row_of-Link, end_of-Link, more_of-Link, Row_of-Postfix, end_of-Postfix, more_of-Postfix}
+use Rattle.isl_tree.specs.declared.statement.Binary.{Binary}
+use Rattle.isl_tree.specs.declared.statement.Binary.TheVariants as b
+use Rattle.isl_tree.specs.declared.statement.Prefix.{Prefix as Word}
+use Rattle.isl_tree.specs.declared.statement.Prefix.TheVariants as p
+use Rattle.isl_tree.specs.declared.statement.ValueKind.{ValueKind}
+use Rattle.isl_tree.specs.declared.statement.ValueKind.TheVariants.{Set, Map, List as Pair, Empty, Truth, Listing, Code}
+use Rattle.isl_tree.specs.declared.statement.Postfix.{Postfix, Inverse, Apply, Item}
+use Rattle.isl_tree.specs.declared.statement.Expr as e
+use Rattle.isl_tree.specs.declared.statement.Expr.{Expr, Row', Prefix', Any', Last', Post', Row_of-Expr, end_of-Expr, more_of-Expr}
+use Rattle.isl_tree.specs.declared.statement.Expr.{Row_of-Link, end_of-Link, more_of-Link, Row_of-Postfix, end_of-Postfix, more_of-Postfix}
 use Rattle.isl_kinds.specs.Lines.{Line, is_kind, is_set_or_map, fits, made, by_lines, by_short_lines}
 use Rattle.isl_kinds.specs.Lines.{joined, applied, prefixed, inverse, item, dependence}
 use Rattle.isl_kinds.specs.Parts.{Part, parts_of, parts_in, parts_in_links, parts_in_postfixes, parts_of_postfix}

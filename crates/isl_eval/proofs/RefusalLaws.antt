@@ -11,10 +11,10 @@ use Rattle.isl_assumed.specs.declared.assumed.Assumed.{Assumed}
 use Rattle.isl_piece.specs.Cut.{IsCutFor}
 use Rattle.isl_refusal.specs.declared.refusal.Refusal.{Refusal}
 use Rattle.isl_refusal.specs.declared.refusal.Refusal.TheVariants as r
-use Rattle.isl_expr.specs.declared.tree.Prefix.TheVariants as p
-use Rattle.isl_expr.specs.declared.tree.Expr.{Expr, Prefix'}
-use Rattle.isl_expr.specs.declared.tree.Stmt.{Stmt}
-use Rattle.isl_expr.specs.declared.tree.Stmt.TheVariants.{Empty, Bind, Show, Assume}
+use Rattle.isl_tree.specs.declared.statement.Prefix.TheVariants as p
+use Rattle.isl_tree.specs.declared.statement.Expr.{Expr, Prefix'}
+use Rattle.isl_tree.specs.declared.statement.Stmt.{Stmt}
+use Rattle.isl_tree.specs.declared.statement.Stmt.TheVariants.{Empty, Bind, Show, Assume}
 use Rattle.isl_kinds.specs.Typed.{TypeView, type_of_statement}
 use Rattle.isl_kinds.specs.Parts.{parts_of_statement}
 use Rattle.isl_values.specs.Made.{uses_units}
@@ -207,7 +207,7 @@ module _ (before : Moment) (bytes : List ℕ) (stmt : Stmt) (read : IsRead befor
     pub unasked_refuses : (refusal : Refusal) → IsWhyUnasked before stmt now refusal → Refuses before bytes now refusal
     unasked_refuses refusal (inl h) =
         subst (Refuses before bytes now) (sym h.0)
-        (clear able, (stmt, read.spelled, inl h.1), IsCharged_refl before.meter now h.2, λ none. h.2)
+        (clear able, (stmt, read.spelled, inl h.1), h.2)
     unasked_refuses refusal (inr h) = subst (Refuses before bytes now) (sym h.1) (cut_asked h.0 h.2)
 
     pub unasked_kept : (refusal : Refusal) → IsWhyUnasked before stmt now refusal → IsKept before.meter now

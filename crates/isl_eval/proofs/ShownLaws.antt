@@ -22,7 +22,7 @@ use Rattle.isl_union.specs.Finite.{IsFiniteAt}
 use Rattle.isl_union.specs.KeptValue.{KeptValue, Has, HasNoDefinitions, IsKeptValue}
 use Rattle.isl_assumed.specs.declared.assumed.Assumed.{Assumed}
 use Rattle.isl_assumed.specs.Assumed.{names_of, Assumes}
-use Rattle.isl_lower_params.specs.Params.{HasNoCoordinates, HoldsSome}
+use Rattle.isl_eval.specs.Params.{HasNoCoordinates, HoldsSome}
 use Rattle.isl_tree.specs.Known.{literal_is_known}
 use Rattle.isl_operators.specs.Operations.{WordMisses}
 use Rattle.isl_operators.specs.Formed.{WordForms}
@@ -34,21 +34,22 @@ use Rattle.isl_refusal.specs.declared.refusal.Refusal.{Refusal}
 use Rattle.isl_refusal.specs.declared.refusal.Refusal.TheVariants.{NoMemory}
 use Rattle.isl_lower.specs.Value.{IsWellFormedLiteral}
 use Rattle.isl_tree.specs.declared.tree.Literal.{Literal}
-use Rattle.isl_expr.specs.declared.tree.Binary.{Binary}
-use Rattle.isl_expr.specs.declared.tree.Binary.TheVariants as b
-use Rattle.isl_expr.specs.declared.tree.Prefix.{Prefix as Word}
-use Rattle.isl_expr.specs.declared.tree.Prefix.TheVariants as p
-use Rattle.isl_expr.specs.declared.tree.ValueKind.{ValueKind}
-use Rattle.isl_expr.specs.declared.tree.ValueKind.TheVariants as kinds
-use Rattle.isl_expr.specs.declared.tree.Postfix.{Postfix}
-use Rattle.isl_expr.specs.declared.tree.Stmt.{Stmt}
-use Rattle.isl_expr.specs.declared.tree.Stmt.TheVariants.{Empty, Bind, Show, Assume}
-use Rattle.isl_expr.specs.declared.tree.Expr.{Expr, Row, Row', Prefix', Row_of-Link, end_of-Link, more_of-Link, items_hidden-the_row-Link-1}
-use Rattle.isl_expr.specs.declared.tree.Expr.TheBlock.{hidden-the_row-Expr-0, hidden-the_row-Link-1}
-use Rattle.isl_expr.specs.declared.tree.Expr as e
-use Rattle.isl_expr.specs.declared.tree.Link.{Link}
-use Rattle.isl_expr.specs.Expr.{literals_of, links_literals}
-use Rattle.isl_expr.proofs.Literals.{literals_of-Prefix, literals_of-Row}
+use Rattle.isl_tree.specs.declared.statement.Binary.{Binary}
+use Rattle.isl_tree.specs.declared.statement.Binary.TheVariants as b
+use Rattle.isl_tree.specs.declared.statement.Prefix.{Prefix as Word}
+use Rattle.isl_tree.specs.declared.statement.Prefix.TheVariants as p
+use Rattle.isl_tree.specs.declared.statement.ValueKind.{ValueKind}
+use Rattle.isl_tree.specs.declared.statement.ValueKind.TheVariants as kinds
+use Rattle.isl_tree.specs.declared.statement.Postfix.{Postfix}
+use Rattle.isl_tree.specs.declared.statement.Stmt.{Stmt}
+use Rattle.isl_tree.specs.declared.statement.Stmt.TheVariants.{Empty, Bind, Show, Assume}
+use Rattle.isl_tree.specs.declared.statement.Expr.{Expr, Row, Row', Prefix', Row_of-Link, end_of-Link, more_of-Link}
+use Rattle.isl_tree.specs.declared.statement.Expr.{items_hidden-the_row-Link-1}
+use Rattle.isl_tree.specs.declared.statement.Expr.TheBlock.{hidden-the_row-Expr-0, hidden-the_row-Link-1}
+use Rattle.isl_tree.specs.declared.statement.Expr as e
+use Rattle.isl_tree.specs.declared.statement.Link.{Link}
+use Rattle.isl_tree.specs.Expr.{literals_of, links_literals}
+use Rattle.isl_tree.proofs.Literals.{literals_of-Prefix, literals_of-Row}
 use Rattle.isl_kinds.specs.declared.types.Purpose.TheVariants as purpose
 use Rattle.isl_kinds.specs.Lines.{by_short_lines, fits, is_kind, made}
 use Rattle.isl_kinds.specs.Lines.{joined as kind_joined}

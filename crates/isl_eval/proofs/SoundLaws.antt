@@ -15,8 +15,8 @@ use Rattle.isl_tree.specs.Literal.{is_among}
 use Rattle.isl_text.specs.Formed.{are_distinct, are_alike, piece_is_formed}
 use Rattle.isl_text.specs.Limits.{is_within, piece_is_within}
 use Rattle.isl_lower.specs.Value.{IsWellFormedLiteral}
-use Rattle.isl_expr.specs.declared.tree.Stmt.{Stmt}
-use Rattle.isl_expr.specs.Expr.{statement_literals}
+use Rattle.isl_tree.specs.declared.statement.Stmt.{Stmt}
+use Rattle.isl_tree.specs.Expr.{statement_literals}
 use Rattle.isl_stmt.specs.Limits.{statement_is_within}
 use Rattle.isl_eval.specs.Spelled.{BytesSpell}
 use Rattle.isl_token.proofs.LexLaws.{lexed}

@@ -18,10 +18,10 @@ use Rattle.isl_assumed.specs.declared.assumed.Assumed.{Assumed}
 use Rattle.isl_assumed.specs.Assumed.{Assumes}
 use Rattle.isl_words.specs.Options.{OptionsView}
 use Rattle.isl_refusal.specs.declared.refusal.Refusal.{Refusal}
-use Rattle.isl_expr.specs.declared.tree.ValueKind.{ValueKind}
-use Rattle.isl_expr.specs.declared.tree.Stmt.{Stmt}
-use Rattle.isl_expr.specs.declared.tree.Stmt.TheVariants.{Empty, Bind, Show, Assume}
-use Rattle.isl_expr.specs.declared.tree.Expr.{Expr}
+use Rattle.isl_tree.specs.declared.statement.ValueKind.{ValueKind}
+use Rattle.isl_tree.specs.declared.statement.Stmt.{Stmt}
+use Rattle.isl_tree.specs.declared.statement.Stmt.TheVariants.{Empty, Bind, Show, Assume}
+use Rattle.isl_tree.specs.declared.statement.Expr.{Expr}
 use Rattle.isl_kinds.specs.Typed.{TypeView, is_dollar, kind_of, type_of_statement}
 use Rattle.isl_flat.specs.Flat.{flat}
 use Rattle.isl_flat.specs.Simple.{BindsIn}
@@ -49,6 +49,7 @@ use Rattle.isl_eval.specs.Evaluated.{IsEvaluable, IsWhyEnded, works}
 use Rattle.isl_eval.specs.Evaluation.{AreEvaluable, AreLeft, IsClearStatement, IsTaken, IsWhyStopped, StopsAt}
 use Rattle.isl_eval.proofs.ChainLaws.{one_alone, one_of}
 use Rattle.isl_eval.proofs.TypeLaws.{bind_typed}
+use Rattle.isl_eval.proofs.UnaskedLaws.{statement_asks}
 use Rattle.isl_eval.proofs.RefusalLaws.{clear, has_work, no_work}
 
 -- ---- units
@@ -380,7 +381,7 @@ module _ {type : Option TypeView} (before : Moment) (bytes : List ℕ) (stmt : S
   end_refuses now unbounded stops paid = reason_refuses now unbounded stops paid
   end_refuses now several_times stops paid = reason_refuses now several_times stops paid
   end_refuses now no_valuation stops paid = reason_refuses now no_valuation stops paid
-  end_refuses now not_assumed stops paid = reason_refuses now not_assumed stops paid
+  end_refuses now not_assumed stops paid = absurd (statement_asks stops.4.0 stops.1 stops.4.2)
 
   pub stopped_refuses : (now : Gauge) (refusal : Refusal) → IsWhyStopped before (flat stmt) now refusal → Refuses before bytes now refusal
   stopped_refuses now refusal (inl why) =

@@ -3,7 +3,7 @@ use Rattle.std.proofs.Common.{◌≡◌, sym, ap, subst, ◌≤◌, ◌^◌, ℕ
 use Rattle.isl_meter.specs.Gauge.{Gauge}
 use Rattle.isl_refusal.specs.declared.refusal.Refusal.{Refusal}
 use Rattle.isl_refusal.specs.declared.refusal.Refusal.TheVariants as r
-use Rattle.isl_expr.specs.declared.tree.Stmt.{Stmt}
+use Rattle.isl_tree.specs.declared.statement.Stmt.{Stmt}
 use Rattle.isl_kinds.specs.Typed.{ScopeView, TypeView}
 use Rattle.isl_flat.specs.Flat.{flat}
 use Rattle.isl_words.specs.Options.{OptionsView}

@@ -20,12 +20,12 @@ use Rattle.isl_refusal.specs.declared.refusal.Refusal.{Refusal}
 use Rattle.isl_refusal.specs.declared.refusal.Refusal.TheVariants as refusals
 use Rattle.isl_space.specs.Element.{Element}
 use Rattle.isl_space.specs.Valuation.{Valuation}
-use Rattle.isl_expr.specs.declared.tree.Binary.{Binary}
-use Rattle.isl_expr.specs.declared.tree.Binary.TheVariants as b
-use Rattle.isl_expr.specs.declared.tree.Link.{Link}
-use Rattle.isl_expr.specs.declared.tree.Expr.{Expr, Row, Row_of-Link, end_of-Link}
-use Rattle.isl_expr.specs.declared.tree.Expr.{more_of-Link, items-the_row-Link, items_hidden-the_row-Link-1}
-use Rattle.isl_expr.specs.declared.tree.Expr.TheBlock.{hidden-the_row-Expr-0, hidden-the_row-Link-1}
+use Rattle.isl_tree.specs.declared.statement.Binary.{Binary}
+use Rattle.isl_tree.specs.declared.statement.Binary.TheVariants as b
+use Rattle.isl_tree.specs.declared.statement.Link.{Link}
+use Rattle.isl_tree.specs.declared.statement.Expr.{Expr, Row, Row_of-Link, end_of-Link}
+use Rattle.isl_tree.specs.declared.statement.Expr.{more_of-Link, items-the_row-Link, items_hidden-the_row-Link-1}
+use Rattle.isl_tree.specs.declared.statement.Expr.TheBlock.{hidden-the_row-Expr-0, hidden-the_row-Link-1}
 use Rattle.isl_kinds.specs.Parts.{Part, parts_of, parts_of_links, parts_in_links}
 use Rattle.isl_kinds.specs.Parts as part
 use Rattle.isl_kinds.specs.Typed.{ScopeView, declared_of, declared_of_row, joined_names}

@@ -1,46 +1,27 @@
 -- public: what is asked for where an expression is shown. (the iscc chapter of the barvinok manual)
-use Rattle.std.specs.Prelude.{Bool, true, false}
-use Rattle.isl_expr.specs.declared.tree.Prefix.{Prefix}
-use Rattle.isl_expr.specs.declared.tree.Prefix.TheVariants as p
-use Rattle.isl_expr.specs.declared.tree.Expr.{Expr, Row', Prefix', Any', Last', Post'}
-use Rattle.isl_expr.specs.declared.tree.Expr as e
-use Rattle.isl_expr.specs.declared.tree.Stmt.{Stmt}
-use Rattle.isl_expr.specs.declared.tree.Stmt.TheVariants.{Empty, Bind, Show, Assume}
+use Rattle.std.specs.Prelude.{Bool, true, false, not}
+use Rattle.isl_tree.specs.declared.words.Question.{Question}
+use Rattle.isl_tree.specs.declared.words.Question.TheVariants.{Value, Elements, Loops}
+use Rattle.isl_tree.specs.Words.{makes_value, word_row}
+use Rattle.isl_tree.specs.declared.statement.Prefix.{Prefix}
+use Rattle.isl_tree.specs.declared.statement.Expr.{Expr, Row', Prefix', Any', Last', Post'}
+use Rattle.isl_tree.specs.declared.statement.Expr as e
+use Rattle.isl_tree.specs.declared.statement.Stmt.{Stmt}
+use Rattle.isl_tree.specs.declared.statement.Stmt.TheVariants.{Empty, Bind, Show, Assume}
 
 -- what a word asks for that is shown with its operand: the elements of the operand, loops that visit them, or the value that it makes
-pub data Question : Type 0 where
-  elements : Question
-  loops : Question
-  value : Question
-
 abbrev pub question_of : Prefix → Question
-question_of p.Scan = elements
-question_of p.Codegen = loops
-question_of p.Domain = value
-question_of p.Range = value
-question_of p.Deltas = value
-question_of p.Identity = value
-question_of p.Wrap = value
-question_of p.Unwrap = value
-question_of p.Zip = value
-question_of p.DomainMap = value
-question_of p.RangeMap = value
-question_of p.LexMin = value
-question_of p.LexMax = value
-question_of p.Coalesce = value
-question_of p.Sample = value
+question_of word = (word_row word).asks
 
 -- it is about the operand, and no value is made
 abbrev pub is_of_operand : Question → Bool
-is_of_operand elements = true
-is_of_operand loops = true
-is_of_operand value = false
+is_of_operand question = not (makes_value question)
 
 -- it is about certain numbers of the parameters: those of elements, and those of loops where they are run
 abbrev pub is_at_numbers : Bool → Question → Bool
-is_at_numbers run elements = true
-is_at_numbers run loops = run
-is_at_numbers run value = false
+is_at_numbers run Elements = true
+is_at_numbers run Loops = run
+is_at_numbers run Value = false
 
 -- what is shown is about certain numbers of the parameters
 abbrev pub shows_at_numbers : Bool → Expr → Bool

@@ -14,8 +14,8 @@ use Rattle.isl_assumed.specs.declared.assumed.Assumed.{Assumed}
 use Rattle.isl_refusal.specs.declared.refusal.Refusal.{Refusal}
 use Rattle.isl_refusal.specs.declared.refusal.Refusal.TheVariants as r
 use Rattle.isl_text.specs.Read.{has_wide_number}
-use Rattle.isl_expr.specs.declared.tree.Stmt.{Stmt}
-use Rattle.isl_expr.specs.declared.tree.Stmt.TheVariants.{Empty, Bind, Show, Assume}
+use Rattle.isl_tree.specs.declared.statement.Stmt.{Stmt}
+use Rattle.isl_tree.specs.declared.statement.Stmt.TheVariants.{Empty, Bind, Show, Assume}
 use Rattle.isl_stmt.specs.Limits.{statement_is_within}
 use Rattle.isl_stmt.specs.Read.{NoStatement}
 use Rattle.isl_kinds.specs.Parts.{parts_of_statement}
@@ -153,6 +153,10 @@ abbrev pub RefusesBecause : Moment → List ℕ → Gauge → Reason → Type 0
 RefusesBecause before bytes now reason =
     IsClear before bytes × IsEnded before bytes (because reason) × IsCharged before.meter now × SparesUnits before bytes now
 
+-- the evaluation of a statement without any of the causes ends for this reason before it begins, and nothing is used
+abbrev pub RefusesBefore : Moment → List ℕ → Gauge → Reason → Type 0
+RefusesBefore before bytes now reason = IsClear before bytes × IsEnded before bytes (because reason) × (now ≡ before.meter)
+
 -- work of a statement without any of the causes is cut, where nothing ends its evaluation before
 abbrev pub RefusesCut : Moment → List ℕ → Gauge → Cut → Type 0
 RefusesCut before bytes now what =
@@ -173,7 +177,7 @@ Refuses before bytes now r.SeveralTimes = RefusesBecause before bytes now ends.s
 Refuses before bytes now r.TimeShape = RefusesBecause before bytes now ends.time_shapes
 Refuses before bytes now r.Nested = RefusesBecause before bytes now ends.nested
 Refuses before bytes now r.NoValuation = RefusesBecause before bytes now ends.no_valuation
-Refuses before bytes now r.NotAssumed = RefusesBecause before bytes now ends.not_assumed
+Refuses before bytes now r.NotAssumed = RefusesBefore before bytes now ends.not_assumed
 Refuses before bytes now r.Syntax = RefusesFirst before bytes now r.Syntax
 Refuses before bytes now r.UnknownName = RefusesFirst before bytes now r.UnknownName
 Refuses before bytes now r.WrongKind = RefusesFirst before bytes now r.WrongKind

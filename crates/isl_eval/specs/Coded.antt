@@ -10,6 +10,7 @@ use Rattle.isl_ast.specs.CallText.{call_lines}
 use Rattle.isl_loop.specs.declared.tree.Loop.{Loop}
 use Rattle.isl_loop.specs.Formed.{IsLoopOver}
 use Rattle.isl_loop.specs.Good.{AreGood}
+use Rattle.isl_loop.specs.Program.{IsProgram}
 use Rattle.isl_loop.specs.Run.{trace}
 use Rattle.isl_loop_text.specs.LoopText.{loop_text}
 use Rattle.isl_relation.specs.Point.{Point}
@@ -69,7 +70,9 @@ IsGoodTreeOf state names P tree =
 abbrev pub code_text : OptionsView → List Name → Loop → List ℕ
 code_text options names tree = if options.run then call_lines (trace tree (values_of names options.at)) else loop_text names tree
 
--- it is that of a good tree over these names, of which no number is above the limit
+-- It is that of a good tree over these names, of which no number is above the limit. The tree is a program, so whatever program over the same
+-- names has the text of its loops executes the same (`program_tells` of `isl_loop_law`).
 abbrev pub IsCodeOf : StateView → Gauge → OptionsView → List Name → Elements → List ℕ → Type 0
 IsCodeOf state meter options names P text =
-    (tree : Loop) × IsLoopOver meter (length names) tree × IsGoodTreeOf state names P tree × (text ≡ code_text options names tree)
+    (tree : Loop) × IsLoopOver meter (length names) tree × IsProgram names tree × IsGoodTreeOf state names P tree
+    × (text ≡ code_text options names tree)

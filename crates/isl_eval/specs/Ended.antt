@@ -4,10 +4,12 @@ use Rattle.std.specs.Prelude.{◌≡◌, true, List}
 use Rattle.isl_space.specs.Element.{Element}
 use Rattle.isl_space.specs.Name.{Name}
 use Rattle.isl_assumed.specs.Assumed.{Assumes, PassesLimitAt}
-use Rattle.isl_expr.specs.declared.tree.Expr.{Expr, Row', Prefix', Any', Last', Post'}
-use Rattle.isl_expr.specs.declared.tree.Expr as e
-use Rattle.isl_expr.specs.declared.tree.Stmt.{Stmt}
-use Rattle.isl_expr.specs.declared.tree.Stmt.TheVariants.{Empty, Bind, Show, Assume}
+use Rattle.isl_tree.specs.declared.statement.Expr.{Expr, Row', Prefix', Any', Last', Post'}
+use Rattle.isl_tree.specs.declared.statement.Expr as e
+use Rattle.isl_tree.specs.declared.words.Question.{Question}
+use Rattle.isl_tree.specs.declared.words.Question.TheVariants as question
+use Rattle.isl_tree.specs.declared.statement.Stmt.{Stmt}
+use Rattle.isl_tree.specs.declared.statement.Stmt.TheVariants.{Empty, Bind, Show, Assume}
 use Rattle.isl_tree.specs.declared.tree.Literal.{Literal}
 use Rattle.isl_kinds.specs.Typed.{declared_in}
 use Rattle.isl_values.specs.State.{Moment, StateView, scope_of}
@@ -16,10 +18,9 @@ use Rattle.isl_state.specs.declared.list.ListPart.TheVariants.{First}
 use Rattle.isl_values.specs.Ends.{End, because, cut, too_wide, no_minimum, nested, time_shapes, unbounded, several_times}
 use Rattle.isl_values.specs.Ends.{no_valuation, not_assumed}
 use Rattle.isl_values.specs.Ends.{CutAlone, Elements, NoEnd, FirstEnds, Ends, EndsIn, NarrowingEnds}
-use Rattle.isl_lower_params.specs.Params.{HoldsSome}
+use Rattle.isl_eval.specs.Params.{HoldsSome}
 use Rattle.isl_eval.specs.Listed.{AreFinite}
-use Rattle.isl_eval.specs.Asked as asked
-use Rattle.isl_eval.specs.Asked.{Question, question_of, needs_numbers}
+use Rattle.isl_eval.specs.Asked.{question_of, needs_numbers}
 use Rattle.isl_eval.specs.Coded.{AtAssumedNumbers, GenerationEnds}
 
 -- elements are to be listed, and there are infinitely many of them; that is asked first, and is work
@@ -37,9 +38,9 @@ ListingEnds P cut = Unit {0}
 -- What is asked of an operand that declares these names and selects these elements: they are listed where parameters have their given
 -- numbers, or loops visit them. The operand comes first. Where a value is asked for it is that of the whole.
 abbrev pub QuestionEnds : Question → Moment → Expr → (End → Type 0) → List Name → Elements → End → Type 0
-QuestionEnds asked.elements now whole OperandEnds names P = FirstEnds OperandEnds (ListingEnds (λ element. P now.options.at element))
-QuestionEnds asked.loops now whole OperandEnds names P = FirstEnds OperandEnds (GenerationEnds (AtAssumedNumbers now.state names P))
-QuestionEnds asked.value now whole OperandEnds names P = Ends now.state whole
+QuestionEnds question.Elements now whole OperandEnds names P = FirstEnds OperandEnds (ListingEnds (λ element. P now.options.at element))
+QuestionEnds question.Loops now whole OperandEnds names P = FirstEnds OperandEnds (GenerationEnds (AtAssumedNumbers now.state names P))
+QuestionEnds question.Value now whole OperandEnds names P = Ends now.state whole
 
 -- of an expression that is shown
 abbrev pub ShownEnds : Moment → Expr → End → Type 0

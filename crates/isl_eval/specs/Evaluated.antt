@@ -6,12 +6,12 @@ use Rattle.isl_meter.specs.Gauge.{Gauge}
 use Rattle.isl_refusal.specs.declared.refusal.Refusal.{Refusal}
 use Rattle.isl_assumed.specs.declared.assumed.Assumed.{Assumed}
 use Rattle.isl_lower.specs.Value.{IsWellFormedLiteral}
-use Rattle.isl_lower_params.specs.Params.{HasNoCoordinates}
-use Rattle.isl_expr.specs.declared.tree.Stmt.{Stmt}
-use Rattle.isl_expr.specs.declared.tree.Stmt.TheVariants.{Empty, Bind, Show, Assume}
-use Rattle.isl_expr.specs.declared.tree.Expr.{Expr, Row', Prefix', Any', Last', Post', Row_of-Link, end_of-Link, more_of-Link}
-use Rattle.isl_expr.specs.declared.tree.Expr as e
-use Rattle.isl_expr.specs.Expr.{statement_literals}
+use Rattle.isl_eval.specs.Params.{HasNoCoordinates}
+use Rattle.isl_tree.specs.declared.statement.Stmt.{Stmt}
+use Rattle.isl_tree.specs.declared.statement.Stmt.TheVariants.{Empty, Bind, Show, Assume}
+use Rattle.isl_tree.specs.declared.statement.Expr.{Expr, Row', Prefix', Any', Last', Post', Row_of-Link, end_of-Link, more_of-Link}
+use Rattle.isl_tree.specs.declared.statement.Expr as e
+use Rattle.isl_tree.specs.Expr.{statement_literals}
 use Rattle.isl_kinds.specs.Parts.{Part, operator, parts_of, parts_in, parts_in_links, parts_of_statement}
 use Rattle.isl_kinds.specs.Typed.{TypeView, ScopeView, type_of_statement}
 use Rattle.isl_flat.specs.Flat.{is_sample}

@@ -16,6 +16,7 @@ use Rattle.isl_union.specs.declared.fault.OpFault.{OpFault}
 use Rattle.isl_ast.specs.CallText.{call_lines}
 use Rattle.isl_loop.specs.declared.tree.Loop.{Loop}
 use Rattle.isl_loop.specs.Formed.{IsLoopOver}
+use Rattle.isl_loop.specs.Program.{IsProgram}
 use Rattle.isl_loop.specs.Run.{trace}
 use Rattle.isl_schedule.specs.declared.fault.GenFault.{GenFault}
 use Rattle.isl_schedule.specs.declared.fault.GenFault.TheVariants as gen_fault
@@ -25,17 +26,19 @@ use Rattle.isl_scan.specs.declared.fault.ScanFault.TheVariants as scan_fault
 use Rattle.isl_refusal.specs.declared.refusal.Refusal.{Refusal}
 use Rattle.isl_refusal.specs.declared.refusal.Refusal.TheVariants.{NoMemory, Nested, NotAssumed, Parametric, SeveralTimes, TimeShape, Unbounded}
 use Rattle.isl_lower.specs.Value.{IsWellFormedLiteral}
-use Rattle.isl_expr.specs.declared.tree.Prefix.{Prefix}
-use Rattle.isl_expr.specs.declared.tree.Prefix.TheVariants as p
-use Rattle.isl_expr.specs.declared.tree.Expr.{Expr, Row', Prefix', Any', Last', Post'}
-use Rattle.isl_expr.specs.declared.tree.Expr as e
-use Rattle.isl_expr.specs.declared.tree.Link.{Link}
-use Rattle.isl_expr.specs.declared.tree.Stmt.{Stmt}
-use Rattle.isl_expr.specs.declared.tree.Stmt.TheVariants.{Empty, Bind, Show, Assume}
-use Rattle.isl_expr.specs.declared.tree.Binary.{Binary}
-use Rattle.isl_expr.specs.declared.tree.Binary.TheVariants as b
+use Rattle.isl_tree.specs.declared.statement.Prefix.{Prefix}
+use Rattle.isl_tree.specs.declared.words.Question.{Question}
+use Rattle.isl_tree.specs.declared.words.Question.TheVariants as question
+use Rattle.isl_tree.specs.Words.{word_row}
+use Rattle.isl_tree.specs.declared.statement.Expr.{Expr, Row', Prefix', Any', Last', Post'}
+use Rattle.isl_tree.specs.declared.statement.Expr as e
+use Rattle.isl_tree.specs.declared.statement.Link.{Link}
+use Rattle.isl_tree.specs.declared.statement.Stmt.{Stmt}
+use Rattle.isl_tree.specs.declared.statement.Stmt.TheVariants.{Empty, Bind, Show, Assume}
+use Rattle.isl_tree.specs.declared.statement.Binary.{Binary}
+use Rattle.isl_tree.specs.declared.statement.Binary.TheVariants as b
 use Rattle.isl_union.specs.Compare.{AreEqual, IsSubset}
-use Rattle.isl_expr.specs.Expr.{literals_of, statement_literals}
+use Rattle.isl_tree.specs.Expr.{literals_of, statement_literals}
 use Rattle.isl_kinds.specs.Typed.{TypeView, ScopeView, is_dollar, has_unknown}
 use Rattle.isl_kinds.specs.Typed.{declared_of, joined_names, type_of_statement}
 use Rattle.isl_flat.specs.Flat.{flat, is_gist, is_sample}
@@ -51,8 +54,7 @@ use Rattle.isl_eval.specs.Tests.{Elements, is_test}
 use Rattle.isl_eval.specs.Tests.{ends_with_test as row_ends_with_test}
 use Rattle.isl_eval.specs.Causes.{Cause, no_token, too_deep, no_statement, too_wide, wide_number, causes}
 use Rattle.isl_eval.specs.Causes.{IsThere, NoneIs, FirstGives, AreDone, is_parametric}
-use Rattle.isl_eval.specs.Asked as asked
-use Rattle.isl_eval.specs.Asked.{Question, is_of_operand, question_of}
+use Rattle.isl_eval.specs.Asked.{is_of_operand, question_of}
 use Rattle.isl_eval.specs.Coded.{code_text, AtAssumedNumbers, GenerationEnds}
 use Rattle.isl_eval.specs.Ended.{AskedEnds, IsAssumedWhereNeeded, ListingEnds, StatementEnds}
 use Rattle.isl_eval.specs.Evaluated.{IsTyped, IsEvaluable, made_parts, works}
@@ -177,22 +179,9 @@ IsSimplified state left right limit value =
     (λ v. (a : KeptValue) × (c : KeptValue) × IsSelected state left a × IsSelected state right c × IsGistOfTwo state a c v)
     (joined_names (declared_of (scope_of state) left) (declared_of (scope_of state) right)) limit value
 
+-- it puts pieces together
 abbrev pub is_coalesce : Prefix → Bool
-is_coalesce p.Domain = false
-is_coalesce p.Range = false
-is_coalesce p.Deltas = false
-is_coalesce p.Identity = false
-is_coalesce p.Wrap = false
-is_coalesce p.Unwrap = false
-is_coalesce p.Zip = false
-is_coalesce p.DomainMap = false
-is_coalesce p.RangeMap = false
-is_coalesce p.LexMin = false
-is_coalesce p.LexMax = false
-is_coalesce p.Coalesce = true
-is_coalesce p.Sample = false
-is_coalesce p.Scan = false
-is_coalesce p.Codegen = false
+is_coalesce word = (word_row word).joins
 
 -- what is kept of it is what it selects: of all but `sample`, `coalesce` and one `%` of two operands
 abbrev pub keeps_selected : Expr → Bool
@@ -231,9 +220,9 @@ refusal_of_generation gen_fault.Unbounded = Unbounded
 refusal_of_generation gen_fault.SeveralTimes = SeveralTimes
 refusal_of_generation (gen_fault.Cut what) = refusal_of_cut what
 
--- a good tree over the parameters of the value
+-- a good tree over the parameters of the value, whose text tells what it executes
 abbrev pub IsTreeOf : Gauge → KeptValue → Loop → Type 0
-IsTreeOf g value tree = IsLoopOver g (length value.params) tree × IsGoodTree value tree
+IsTreeOf g value tree = IsLoopOver g (length value.params) tree × IsProgram value.params tree × IsGoodTree value tree
 
 -- the calls of loops, where parameters have their given numbers
 abbrev pub run_text : OptionsView → List Name → Loop → List ℕ
@@ -251,9 +240,9 @@ refusal_of_fault scan_fault.Unbounded = Unbounded
 -- ---- what is asked for
 
 abbrev pub asks_loops : Question → Bool
-asks_loops asked.elements = false
-asks_loops asked.loops = true
-asks_loops asked.value = false
+asks_loops question.Elements = false
+asks_loops question.Loops = true
+asks_loops question.Value = false
 
 abbrev pub is_codegen : Prefix → Bool
 is_codegen word = asks_loops (question_of word)

@@ -2,6 +2,7 @@ pub mod Tests
 pub mod Listed
 pub mod Asked
 pub mod Coded
+pub mod Params
 pub mod Ended
 pub mod Spelled
 pub mod Machine

@@ -6,12 +6,14 @@ use Rattle.isl_space.specs.Name.{Name}
 use Rattle.isl_union.specs.KeptValue.{KeptValue}
 use Rattle.isl_print.specs.Printed.{printed}
 use Rattle.isl_scan.specs.ListingText.{listing_text}
-use Rattle.isl_expr.specs.declared.tree.Expr.{Expr, Row', Prefix', Any', Last', Post'}
-use Rattle.isl_expr.specs.declared.tree.Expr as e
-use Rattle.isl_expr.specs.declared.tree.Stmt.{Stmt}
-use Rattle.isl_expr.specs.declared.tree.Stmt.TheVariants.{Empty, Bind, Show, Assume}
+use Rattle.isl_tree.specs.declared.statement.Expr.{Expr, Row', Prefix', Any', Last', Post'}
+use Rattle.isl_tree.specs.declared.statement.Expr as e
+use Rattle.isl_tree.specs.declared.words.Question.{Question}
+use Rattle.isl_tree.specs.declared.words.Question.TheVariants as question
+use Rattle.isl_tree.specs.declared.statement.Stmt.{Stmt}
+use Rattle.isl_tree.specs.declared.statement.Stmt.TheVariants.{Empty, Bind, Show, Assume}
 use Rattle.isl_flat.specs.Flat.{flat}
-use Rattle.isl_lower_params.specs.Params.{HoldsSome}
+use Rattle.isl_eval.specs.Params.{HoldsSome}
 use Rattle.isl_state.specs.declared.list.ListPart.TheVariants.{First}
 use Rattle.isl_kinds.specs.Typed.{declared_in}
 use Rattle.isl_values.specs.State.{Kept, Moment, Binds, Narrows, forgotten, scope_of}
@@ -19,8 +21,7 @@ use Rattle.isl_values.specs.Selection.{Keeps, SelectsIn}
 use Rattle.isl_values.specs.Ends.{Elements, GoesOn}
 use Rattle.isl_eval.specs.Tests.{ends_with_test, RowHolds}
 use Rattle.isl_eval.specs.Listed.{IsListed}
-use Rattle.isl_eval.specs.Asked as asked
-use Rattle.isl_eval.specs.Asked.{Question, question_of}
+use Rattle.isl_eval.specs.Asked.{question_of}
 use Rattle.isl_eval.specs.Coded.{IsCodeOf}
 use Rattle.isl_eval.specs.Ended.{StatementEnds}
 
@@ -68,11 +69,11 @@ ShowsRow false Holds before expr answer = ShowsValue before expr answer
 -- what is asked of an operand that declares these names and selects these elements: these, where parameters have their given numbers; or
 -- loops that visit them; or the value of the whole
 abbrev pub ShowsQuestion : Question → Moment → Expr → List Name → Elements → Answer → Type 0
-ShowsQuestion asked.elements before whole names P answer =
+ShowsQuestion question.Elements before whole names P answer =
     (listing : List Element) × IsListed (λ element. P before.options.at element) listing × (answer ≡ listed listing)
-ShowsQuestion asked.loops before whole names P answer =
+ShowsQuestion question.Loops before whole names P answer =
     (text : List ℕ) × IsCodeOf before.state before.meter before.options names P text × (answer ≡ coded text)
-ShowsQuestion asked.value before whole names P answer = ShowsValue before whole answer
+ShowsQuestion question.Value before whole names P answer = ShowsValue before whole answer
 
 abbrev pub Shows : Moment → Expr → Answer → Type 0
 Shows before (e.Name name) answer = ShowsValue before (e.Name name) answer

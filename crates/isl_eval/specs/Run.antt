@@ -1,7 +1,7 @@
 -- public: statements that are answered, one after another. (the iscc chapter of the barvinok manual)
 use Rattle.std.specs.Prelude.{◌≡◌, ℕ, List, [], ◌∷◌}
 use Rattle.isl_meter.specs.Gauge.{IsCharged}
-use Rattle.isl_expr.specs.declared.tree.Stmt.{Stmt}
+use Rattle.isl_tree.specs.declared.statement.Stmt.{Stmt}
 use Rattle.isl_values.specs.State.{Moment}
 use Rattle.isl_eval.specs.Ended.{IsAssumedWhereNeeded}
 use Rattle.isl_eval.specs.Machine.{Answer, Performs}

@@ -3,7 +3,7 @@ use Rattle.std.specs.Prelude.{◌≡◌, ℕ, List, Some}
 use Rattle.isl_token.specs.TokenView.{Token}
 use Rattle.isl_token.specs.Lex as lex
 use Rattle.isl_token.specs.Spelling.{Spells}
-use Rattle.isl_expr.specs.declared.tree.Stmt.{Stmt}
+use Rattle.isl_tree.specs.declared.statement.Stmt.{Stmt}
 use Rattle.isl_stmt.specs.StatementGrammar.{statement_grammar}
 
 -- the bytes have tokens, and these spell the statement

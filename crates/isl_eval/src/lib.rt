@@ -6,8 +6,10 @@
 #![tactic(auto)]
 
 mod answers;
+mod kept;
 mod loops;
 mod numbers;
+mod params;
 mod shown;
 mod simple;
 mod spelled;

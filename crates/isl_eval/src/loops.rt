@@ -18,12 +18,12 @@ ghost use Rattle.isl_eval.specs.Evaluation.{EndsGeneration, IsCodeOfValue, IsOut
 use crate::answers::Answer;
 use crate::numbers::numbers_of;
 use isl_ast::{Loop, loop_text, run_text};
-use isl_expr::tree::Expr;
 use isl_loops::codegen;
 use isl_meter::Meter;
 use isl_refusal::Refusal;
 use isl_schedule::GenFault;
 use isl_space::Params;
+use isl_tree::statement::Expr;
 use isl_union::Value;
 use isl_values::{State, flat_value_of, refusal_of, under_own};
 use isl_words::Options;

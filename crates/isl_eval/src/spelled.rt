@@ -5,10 +5,10 @@ ghost use Rattle.isl_values.specs.State.{Moment};
 ghost use Rattle.isl_eval.specs.Spelled.{SpellOne};
 ghost use Rattle.isl_eval.specs.Evaluation.{IsRead, IsWhyNot};
 
-use isl_expr::tree::Stmt;
 use isl_meter::Meter;
 use isl_refusal::Refusal;
 use isl_stmt::read_statement;
+use isl_tree::statement::Stmt;
 use std::alloc::Global;
 
 /// The statement that the bytes spell.

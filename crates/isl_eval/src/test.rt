@@ -12,9 +12,9 @@ ghost use Rattle.isl_values.specs.Selection.{Selects};
 ghost use Rattle.isl_eval.specs.Tests.{is_test, TestHolds};
 ghost use Rattle.isl_eval.specs.Evaluation.{ends_with_test, EndsTest, EndsTwo, IsOutcome, IsReadyTest, IsTestOf, Tells, past_row};
 
-use isl_expr::tree::{Binary, Expr, Link};
 use isl_meter::Meter;
 use isl_refusal::Refusal;
+use isl_tree::statement::{Binary, Expr, Link};
 use isl_union::{OpFault, Value};
 use isl_values::{State, both_under, joined_past, refusal_of, value_of};
 use std::alloc::Global;

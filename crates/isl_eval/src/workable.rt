@@ -8,10 +8,11 @@ ghost use Rattle.isl_eval.specs.Causes as spec;
 ghost use Rattle.isl_eval.specs.Asked as asked;
 ghost use Rattle.isl_eval.specs.Evaluation.{names_of, IsWorkable, IsWhyUnworkable};
 
-use isl_expr::tree::{Expr, Prefix, Stmt};
 use isl_kinds::{Scope, Typed, typed_statement};
 use isl_refusal::Refusal;
 use isl_space::Name;
+use isl_tree::statement::{Expr, Prefix, Stmt};
+use isl_tree::words::{Question, row_of};
 use isl_words::Options;
 use std::alloc::Global;
 
@@ -32,10 +33,10 @@ fn lacks_number(names: &[Name], at: &[(Name, i128)]) -> bool
 fn is_at_numbers(word: Prefix, run: bool) -> bool
     ensures { result ≡ asked.is_at_numbers run (asked.question_of word) }
 {
-    match word {
-        Prefix::Scan => true,
-        Prefix::Codegen => run,
-        _ => false,
+    match row_of(word).asks {
+        Question::Elements => true,
+        Question::Loops => run,
+        Question::Value => false,
     }
 }
 

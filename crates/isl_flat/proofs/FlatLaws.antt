@@ -2,15 +2,16 @@
 use mathlib.Core.Former.{Count}
 use Rattle.std.proofs.Common.{◌≡◌, ◌∙◌, ◌≤◌, ℕ, Bool, List, [], ◌∷◌, ◌++◌, reverse, Result, refl, sym, ap, subst, arith}
 use Rattle.std.proofs.lemmas.List.{reverse-append, reverse-reverse}
-use Rattle.isl_expr.specs.declared.tree.Stmt.{Stmt}
-use Rattle.isl_expr.specs.declared.tree.Binary.TheVariants.{Gist}
-use Rattle.isl_expr.specs.declared.tree.Prefix.{Prefix as Word}
-use Rattle.isl_expr.specs.declared.tree.Link.{Link}
-use Rattle.isl_expr.specs.declared.tree.Postfix.{Postfix}
-use Rattle.isl_expr.specs.declared.tree.Expr.{Expr, Row, Prefix, Any, Last, Post, Row_of-Link, end_of-Link, more_of-Link}
-use Rattle.isl_expr.specs.declared.tree.Expr.{Row_of-Postfix, end_of-Postfix, more_of-Postfix, items-the_row-Link, items-the_row-Postfix}
-use Rattle.isl_expr.specs.declared.tree.Expr.{items_hidden-the_row-Link-1, items_hidden-the_row-Postfix-2}
-use Rattle.isl_expr.specs.declared.tree.Expr.TheBlock.{hidden-the_row-Expr-0, hidden-the_row-Link-1, hidden-the_row-Postfix-2}
+use Rattle.isl_tree.specs.declared.statement.Stmt.{Stmt}
+use Rattle.isl_tree.specs.declared.statement.Binary.TheVariants.{Gist}
+use Rattle.isl_tree.specs.declared.statement.Prefix.{Prefix as Word}
+use Rattle.isl_tree.specs.declared.statement.Link.{Link}
+use Rattle.isl_tree.specs.declared.statement.Postfix.{Postfix}
+use Rattle.isl_tree.specs.declared.statement.Expr.{Expr, Row, Prefix, Any, Last, Post, Row_of-Link, end_of-Link, more_of-Link}
+use Rattle.isl_tree.specs.declared.statement.Expr.{Row_of-Postfix, end_of-Postfix, more_of-Postfix, items-the_row-Link}
+use Rattle.isl_tree.specs.declared.statement.Expr.{items-the_row-Postfix}
+use Rattle.isl_tree.specs.declared.statement.Expr.{items_hidden-the_row-Link-1, items_hidden-the_row-Postfix-2}
+use Rattle.isl_tree.specs.declared.statement.Expr.TheBlock.{hidden-the_row-Expr-0, hidden-the_row-Link-1, hidden-the_row-Postfix-2}
 use Rattle.isl_flat.specs.declared.flattening.Standing.{Standing}
 use Rattle.isl_flat.specs.Flat.{Flattened, Partial, Followed, is_gist_row, is_gist_alone, is_chosen, is_sample, flattened, nested}
 use Rattle.isl_flat.specs.Flat.{nested_postfix}

@@ -3,17 +3,17 @@ use Rattle.std.specs.Prelude.{◌≡◌, ℕ, ◌+◌, Bool, true, false, ◌&&�
 use Rattle.std.specs.Prelude.{if◌then◌else◌}
 use Rattle.std.specs.Fmt.{decimal}
 use Rattle.isl_space.specs.Name.{Name}
-use Rattle.isl_expr.specs.declared.tree.Binary.{Binary}
-use Rattle.isl_expr.specs.declared.tree.Binary.TheVariants as signs
-use Rattle.isl_expr.specs.declared.tree.Prefix.{Prefix}
-use Rattle.isl_expr.specs.Words.{word_row}
-use Rattle.isl_expr.specs.declared.tree.Stmt.{Stmt}
-use Rattle.isl_expr.specs.declared.tree.Stmt.TheVariants.{Empty, Bind, Show, Assume}
-use Rattle.isl_expr.specs.declared.tree.Link.{Link}
-use Rattle.isl_expr.specs.declared.tree.Postfix.{Postfix, Inverse, Apply, Item}
-use Rattle.isl_expr.specs.declared.tree.Expr.{Expr, Row', Prefix', Any', Last', Post', Row_of-Expr, end_of-Expr, more_of-Expr}
-use Rattle.isl_expr.specs.declared.tree.Expr.{Row_of-Link, end_of-Link, more_of-Link, Row_of-Postfix, end_of-Postfix, more_of-Postfix}
-use Rattle.isl_expr.specs.declared.tree.Expr as e
+use Rattle.isl_tree.specs.declared.statement.Binary.{Binary}
+use Rattle.isl_tree.specs.declared.statement.Binary.TheVariants as signs
+use Rattle.isl_tree.specs.declared.statement.Prefix.{Prefix}
+use Rattle.isl_tree.specs.Words.{word_row}
+use Rattle.isl_tree.specs.declared.statement.Stmt.{Stmt}
+use Rattle.isl_tree.specs.declared.statement.Stmt.TheVariants.{Empty, Bind, Show, Assume}
+use Rattle.isl_tree.specs.declared.statement.Link.{Link}
+use Rattle.isl_tree.specs.declared.statement.Postfix.{Postfix, Inverse, Apply, Item}
+use Rattle.isl_tree.specs.declared.statement.Expr.{Expr, Row', Prefix', Any', Last', Post', Row_of-Expr, end_of-Expr, more_of-Expr}
+use Rattle.isl_tree.specs.declared.statement.Expr.{Row_of-Link, end_of-Link, more_of-Link, Row_of-Postfix, end_of-Postfix, more_of-Postfix}
+use Rattle.isl_tree.specs.declared.statement.Expr as e
 use Rattle.isl_flat.specs.declared.partial.Row.{Row}
 use Rattle.isl_flat.specs.declared.flattening.Standing.{Standing}
 use Rattle.isl_flat.specs.declared.flattening.Standing.TheVariants.{Outermost, Inside}

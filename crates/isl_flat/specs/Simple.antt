@@ -2,12 +2,12 @@
 use Rattle.std.specs.Prelude.{◌≡◌, ◌≢◌, ◌⊎◌, ◌≤◌, ℕ, suc, Bool, false, List, [], ◌∷◌, length, Option, Some, Ok}
 use Rattle.std.specs.List.{list_any}
 use Rattle.isl_space.specs.Name.{Name}
-use Rattle.isl_expr.specs.declared.tree.Binary.TheVariants.{Gist}
-use Rattle.isl_expr.specs.declared.tree.Prefix.TheVariants.{Sample}
-use Rattle.isl_expr.specs.declared.tree.Stmt.{Stmt}
-use Rattle.isl_expr.specs.declared.tree.Stmt.TheVariants.{Empty, Bind, Show, Assume}
-use Rattle.isl_expr.specs.declared.tree.Expr.{Expr}
-use Rattle.isl_expr.specs.declared.tree.Expr as e
+use Rattle.isl_tree.specs.declared.statement.Binary.TheVariants.{Gist}
+use Rattle.isl_tree.specs.declared.statement.Prefix.TheVariants.{Sample}
+use Rattle.isl_tree.specs.declared.statement.Stmt.{Stmt}
+use Rattle.isl_tree.specs.declared.statement.Stmt.TheVariants.{Empty, Bind, Show, Assume}
+use Rattle.isl_tree.specs.declared.statement.Expr.{Expr}
+use Rattle.isl_tree.specs.declared.statement.Expr as e
 use Rattle.isl_kinds.specs.Parts as part
 use Rattle.isl_kinds.specs.Parts.{Part, parts_of, parts_of_statement}
 use Rattle.isl_kinds.specs.Typed.{ScopeView, TypeView, is_dollar, bound_to, declared_of, type_of_statement}

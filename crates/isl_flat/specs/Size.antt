@@ -1,10 +1,10 @@
 -- inner: how much stands in an expression: what flattening counts down.
 use Rattle.std.specs.Prelude.{ℕ, ◌+◌, List, [], ◌∷◌}
-use Rattle.isl_expr.specs.declared.tree.Link.{Link}
-use Rattle.isl_expr.specs.declared.tree.Postfix.{Postfix, Inverse, Apply, Item}
-use Rattle.isl_expr.specs.declared.tree.Expr.{Expr, Row', Prefix', Any', Last', Post', Row_of-Expr, end_of-Expr, more_of-Expr}
-use Rattle.isl_expr.specs.declared.tree.Expr.{Row_of-Link, end_of-Link, more_of-Link, Row_of-Postfix, end_of-Postfix, more_of-Postfix}
-use Rattle.isl_expr.specs.declared.tree.Expr as e
+use Rattle.isl_tree.specs.declared.statement.Link.{Link}
+use Rattle.isl_tree.specs.declared.statement.Postfix.{Postfix, Inverse, Apply, Item}
+use Rattle.isl_tree.specs.declared.statement.Expr.{Expr, Row', Prefix', Any', Last', Post', Row_of-Expr, end_of-Expr, more_of-Expr}
+use Rattle.isl_tree.specs.declared.statement.Expr.{Row_of-Link, end_of-Link, more_of-Link, Row_of-Postfix, end_of-Postfix, more_of-Postfix}
+use Rattle.isl_tree.specs.declared.statement.Expr as e
 
 abbrev mutual
   pub size_of : Expr → ℕ

@@ -5,9 +5,9 @@ ghost use Rattle.isl_flat.specs.Flat as spec;
 ghost use Rattle.isl_flat.specs.Flat.{Leaves, LeavesPostfix, LeavesPostfixes, LeavesRow, dollar, flat, partial};
 
 use crate::partial::{Row, is_gist, is_gist_alone, reversed};
-use isl_expr::tree::{Binary, Expr, Link, Postfix, Prefix, Stmt};
-use isl_expr::words::row_of;
 use isl_space::Name;
+use isl_tree::statement::{Binary, Expr, Link, Postfix, Prefix, Stmt};
+use isl_tree::words::row_of;
 use sqlite_items::{Boxed, Items};
 use std::alloc::{AllocError, Global};
 use std::marker::Model;
@@ -69,8 +69,8 @@ struct Flattening {
 
 impl Model for Flattening {
     ghost use Rattle.std.specs.Prelude.{List};
-    ghost use Rattle.isl_expr.specs.declared.tree.Stmt as trees;
-    ghost use Rattle.isl_expr.specs.contracts.tree.Stmt as coding;
+    ghost use Rattle.isl_tree.specs.declared.statement.Stmt as trees;
+    ghost use Rattle.isl_tree.specs.contracts.statement.Stmt as coding;
     ghost use Rattle.std.specs.Coded.{codes};
 
     ghost Value = { List trees.Stmt };

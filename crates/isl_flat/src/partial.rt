@@ -3,7 +3,7 @@
 ghost use Rattle.std.specs.Prelude.{◌≡◌, reverse, IfOk};
 ghost use Rattle.isl_flat.specs.Flat.{whole, is_gist, is_gist_alone};
 
-use isl_expr::tree::{Binary, Expr, Link};
+use isl_tree::statement::{Binary, Expr, Link};
 use sqlite_items::{Boxed, Items};
 use std::alloc::{AllocError, Global};
 

@@ -6,11 +6,11 @@ use Rattle.std.specs.Option.{option_map}
 use Rattle.isl_space.specs.Name.{Name}
 use Rattle.isl_refusal.specs.declared.refusal.Refusal.{Refusal}
 use Rattle.isl_refusal.specs.declared.refusal.Refusal.TheVariants.{UnknownName, WrongKind, NoElement}
-use Rattle.isl_expr.specs.declared.tree.ValueKind.{ValueKind}
-use Rattle.isl_expr.specs.declared.tree.Stmt.{Stmt}
-use Rattle.isl_expr.specs.declared.tree.Stmt.TheVariants.{Empty, Bind, Show, Assume}
-use Rattle.isl_expr.specs.declared.tree.Expr.{Expr}
-use Rattle.isl_expr.specs.declared.tree.Expr as e
+use Rattle.isl_tree.specs.declared.statement.ValueKind.{ValueKind}
+use Rattle.isl_tree.specs.declared.statement.Stmt.{Stmt}
+use Rattle.isl_tree.specs.declared.statement.Stmt.TheVariants.{Empty, Bind, Show, Assume}
+use Rattle.isl_tree.specs.declared.statement.Expr.{Expr}
+use Rattle.isl_tree.specs.declared.statement.Expr as e
 use Rattle.isl_kinds.specs.declared.types.Purpose.{Purpose}
 use Rattle.isl_kinds.specs.declared.types.Purpose.TheVariants.{Bound}
 use Rattle.isl_kinds.specs.Parts.{parts_of}

@@ -1,7 +1,7 @@
 //! What holds of simple statements. This function does nothing: its contract is the law.
 
 ghost use Rattle.std.specs.Prelude.{◌≡◌, ◌≤◌, ◌^◌, false, length};
-ghost use Rattle.isl_expr.specs.declared.tree.Stmt.{Stmt};
+ghost use Rattle.isl_tree.specs.declared.statement.Stmt.{Stmt};
 ghost use Rattle.isl_flat.specs.Flat.{flat};
 ghost use Rattle.isl_flat_law.specs.PutBack.{Say};
 ghost use Rattle.isl_flat.specs.Simple.{has_dollar};

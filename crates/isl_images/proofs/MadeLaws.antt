@@ -3,7 +3,7 @@ use Rattle.std.proofs.Common.{◌≡◌, ◌↔◌, ◌⊎◌, inl, inr, sym, ap
 use Rattle.std.proofs.Common.{length, get_or, map, take}
 use Rattle.std.proofs.lemmas.List.{map-append, take_all, take_more}
 use Rattle.std.proofs.lemmas.List.Elements.{All-append, All-nil, All-map}
-use Rattle.isl_math.proofs.ListLaws.{All-unmapped, Any-left, Any-none, Any-one, Any-parts, Any-right, Any-first}
+use Rattle.isl_math.proofs.ListLaws.{Any-left, Any-none, Any-one, Any-parts, Any-right, Any-first}
 use Rattle.isl_meter.specs.Gauge.{Gauge, IsCharged}
 use Rattle.isl_space.specs.Element.{Element}
 use Rattle.isl_space.specs.Name.{Name}
@@ -163,8 +163,3 @@ module _ (value : KeptValue) (params : List Name) (pieces : List PieceView) (nam
   have_all v e h =
       subst (λ (n : List Name). Any (HasElement n v e) (map kept_piece pieces)) (sym names)
       (subst (Any (HasElement value.params v e)) (sym content) h)
-
-  pub all_plain : HasNoDefinitions value → All IsPlain pieces
-  all_plain none =
-      let P : KeptPiece → Type 0 = λ p. p.definitions ≡ [] in
-      All-unmapped P kept_piece pieces (subst (All P) (sym content) none)

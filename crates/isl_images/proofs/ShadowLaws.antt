@@ -1,22 +1,19 @@
 -- What is left of a system without some coordinates.
-use Rattle.std.proofs.Common.{◌≡◌, ◌↔◌, refl, arith, ℕ, ◌+◌, ◌≤◌, ℤ, None, List, [], ◌++◌, All, length, length-append, take, drop}
-use Rattle.std.proofs.Common.{map, ap, ◌∙◌, unsigned_abs}
+use Rattle.std.proofs.Common.{◌≡◌, ◌↔◌, refl, arith, ℕ, ◌+◌, ◌≤◌, ℤ, None, List, ◌++◌, All, length, length-append, take, drop}
+use Rattle.std.proofs.Common.{map, ap, unsigned_abs}
 use Rattle.std.specs.List.{range_with_len}
 use Rattle.std.proofs.lemmas.List.{length-drop, length-take-le}
-use Rattle.isl_math.proofs.ListLaws.{All-unmapped}
 use Rattle.isl_meter.specs.Gauge.{Gauge, IsCharged, limit_of}
 use Rattle.isl_space.specs.Element.{Element}
 use Rattle.isl_space.specs.Form.{leaf}
 use Rattle.isl_space.specs.Name.{Name}
 use Rattle.isl_space.specs.SpaceForm.{SpaceForm, coordinates_of, set_of}
 use Rattle.isl_space.specs.Valuation.{Valuation}
-use Rattle.isl_piece.specs.declared.definition.Definition.{Definition}
 use Rattle.isl_piece.specs.declared.system.System.{System}
 use Rattle.isl_piece.specs.Piece.{PieceView}
 use Rattle.isl_piece.specs.System.{free_columns}
-use Rattle.isl_elim.specs.Dependents.{kept_definitions, narrowed, with_dependents}
-use Rattle.isl_elim.specs.Elimination.{IsProjectionAlong, without_from}
-use Rattle.isl_union.specs.KeptValue.{KeptPiece, columns_of}
+use Rattle.isl_elim.specs.Elimination.{IsProjectionAlong}
+use Rattle.isl_union.specs.KeptValue.{columns_of}
 use Rattle.isl_union.specs.Numbers.{IsPieceUpTo}
 use Rattle.isl_union.specs.Piece.{kept_piece, IsPieceOf}
 use Rattle.isl_union.specs.Pieces.{IsOfAny}
@@ -36,11 +33,6 @@ put_long from middle xs inside =
     let front = length-take-le from xs inside in
     let behind = length-drop from xs in
     omega (arith, first, second, front, behind, inside)
-
-kept_none : (s : System) (cols : List ℕ) → s.definitions ≡ [] → kept_definitions s cols ≡ []
-kept_none s cols none =
-    let gone = with_dependents s cols in
-    ap (λ (ds : List Definition). map (narrowed gone) (without_from (free_columns s) gone ds)) none
 
 module _ (params : List Name) (s : System) (space : SpaceForm) (gap : Gap) (fits : HasGap params space s gap) (systems : List System)
     (projection : IsProjectionAlong s (range_with_len (length params + gap.from) gap.count) systems) where
@@ -83,17 +75,13 @@ module _ (params : List Name) (s : System) (space : SpaceForm) (gap : Gap) (fits
       )
 
   -- the pieces with what is left
-  pub shadow_made : (g h : Gauge) → IsCharged g h → (cols : List ℕ) (made : List PieceView)
+  pub shadow_made : (g h : Gauge) → IsCharged g h → (made : List PieceView)
       → ((v : Valuation) (e : Element) → elements_of_all params made v e ↔ IsOfAny params space systems v e)
       → All (IsPieceOf params) made → All (IsPieceUpTo (unsigned_abs (limit_of h))) (map kept_piece made)
-      → (All (λ t. t.definitions ≡ []) systems → All (λ p. p.definitions ≡ []) (map kept_piece made))
-      → All (λ t. t.definitions ≡ kept_definitions s cols) systems
-      → ArePiecesOf g params (s.definitions ≡ []) (IsShadow params space s gap) made
-  shadow_made g h charged cols made elements sound small plain definitions = record {
+      → ArePiecesOf g params ⊥ (IsShadow params space s gap) made
+  shadow_made g h charged made elements sound small = record {
     elements = λ v e. through (elements v e) (shadow_has v e);
     sound = sound;
     within = within_before g h made charged (pieces_within h params made (map kept_piece made) sound refl small);
-    definitions = λ none.
-        All-unmapped (λ (p : KeptPiece). p.definitions ≡ []) kept_piece made
-        (plain (λ k d l. definitions k d l ∙ kept_none s cols none));
+    definitions = λ never. absurd never;
   }

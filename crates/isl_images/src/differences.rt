@@ -6,7 +6,7 @@ ghost use Rattle.isl_space.specs.Element.{Element};
 ghost use Rattle.isl_space.specs.Valuation.{Valuation};
 ghost use Rattle.isl_piece.specs.System.{IsSystemWithin, free_columns};
 ghost use Rattle.isl_union.specs.Fault.{IsMeteredAnswer};
-ghost use Rattle.isl_union.specs.KeptValue.{Has, HasNoDefinitions, IsKeptValue};
+ghost use Rattle.isl_union.specs.KeptValue.{Has, IsKeptValue};
 ghost use Rattle.isl_union.specs.Numbers.{IsWithinLimit};
 ghost use Rattle.isl_relation.specs.Maps.{DeltasHas};
 ghost use Rattle.isl_images.specs.Differences.{difference_row, difference_system, IsWithDifferences};
@@ -85,7 +85,6 @@ pub fn deltas(alloc: Global, a: &Value, meter: &mut Meter) -> Result<Value, OpFa
         → IfOk result (λ value. Has value valuation element ↔ DeltasHas (Has a.now valuation) element) }
 
     // How it is written, and what that cost.
-    ensures definitions { HasNoDefinitions a.now → IfOk result HasNoDefinitions }
     ensures numbers { IfOk result (IsWithinLimit meter.old) }
     ensures meter { IsMeteredAnswer meter.old meter.new result }
 {

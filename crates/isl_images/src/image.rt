@@ -8,12 +8,12 @@ ghost use Rattle.isl_space.specs.SpaceForm.{map_of};
 ghost use Rattle.isl_space.specs.Valuation.{Valuation};
 ghost use Rattle.isl_piece.specs.System.{IsSystemWithin};
 ghost use Rattle.isl_union.specs.Fault.{IsMeteredAnswer};
-ghost use Rattle.isl_union.specs.KeptValue.{Has, HasNoDefinitions, IsKeptValue};
+ghost use Rattle.isl_union.specs.KeptValue.{Has, IsKeptValue};
 ghost use Rattle.isl_union.specs.Numbers.{AreWithinLimit, IsWithinLimit};
 ghost use Rattle.isl_union.specs.Piece.{IsPieceOf};
 ghost use Rattle.isl_relation.specs.Maps.{DeltasHas, DomainHas, RangeHas};
 ghost use Rattle.isl_images.specs.Image.{ImageHas};
-ghost use Rattle.isl_images.specs.Made.{elements_of, elements_of_all, ArePiecesOf, IsPlain};
+ghost use Rattle.isl_images.specs.Made.{elements_of, elements_of_all, ArePiecesOf};
 
 use crate::differences::with_differences;
 use crate::shadow::{Gap, pieces_without};
@@ -47,7 +47,7 @@ fn piece_domain(
     requires piece { IsPieceOf params.now piece.now }
     requires within { IsSystemWithin meter.old piece.now.system }
     requires space { piece.now.space ≡ map_of (form_of from.now.value) (form_of to.now.value) }
-    ensures made { IfOk result (λ made. ArePiecesOf meter.old params.now (IsPlain piece.now)
+    ensures made { IfOk result (λ made. ArePiecesOf meter.old params.now ⊥
         (λ valuation. DomainHas (elements_of params.now piece.now valuation)) made.items) }
     ensures meter { IsMetered meter.old meter.new result }
 {
@@ -71,7 +71,7 @@ fn piece_range(
     requires piece { IsPieceOf params.now piece.now }
     requires within { IsSystemWithin meter.old piece.now.system }
     requires space { piece.now.space ≡ map_of (form_of from.now.value) (form_of to.now.value) }
-    ensures made { IfOk result (λ made. ArePiecesOf meter.old params.now (IsPlain piece.now)
+    ensures made { IfOk result (λ made. ArePiecesOf meter.old params.now ⊥
         (λ valuation. RangeHas (elements_of params.now piece.now valuation)) made.items) }
     ensures meter { IsMetered meter.old meter.new result }
 {
@@ -96,7 +96,7 @@ fn piece_deltas(
     requires piece { IsPieceOf params.now piece.now }
     requires within { IsSystemWithin meter.old piece.now.system }
     requires space { piece.now.space ≡ map_of (form_of from.now.value) (form_of to.now.value) }
-    ensures made { IfOk result (λ made. ArePiecesOf meter.old params.now (IsPlain piece.now)
+    ensures made { IfOk result (λ made. ArePiecesOf meter.old params.now ⊥
         (λ valuation. DeltasHas (elements_of params.now piece.now valuation)) made.items) }
     ensures meter { IsMetered meter.old meter.new result }
 {
@@ -125,7 +125,7 @@ fn piece_image(
 ) -> Result<Vec<Piece>, Cut>
     requires piece { IsPieceOf params.now piece.now }
     requires within { IsSystemWithin meter.old piece.now.system }
-    ensures made { IfOk result (λ made. ArePiecesOf meter.old params.now (IsPlain piece.now)
+    ensures made { IfOk result (λ made. ArePiecesOf meter.old params.now ⊥
         (λ valuation. ImageHas image (elements_of params.now piece.now valuation)) made.items) }
     ensures meter { IsMetered meter.old meter.new result }
 {
@@ -150,7 +150,7 @@ fn piece_images(
 ) -> Result<Vec<Piece>, Cut>
     requires pieces { All (IsPieceOf params.now) pieces.now }
     requires within { AreWithinLimit meter.old pieces.now }
-    ensures made { IfOk result (λ made. ArePiecesOf meter.old params.now (All IsPlain pieces.now)
+    ensures made { IfOk result (λ made. ArePiecesOf meter.old params.now ⊥
         (λ valuation. ImageHas image (elements_of_all params.now pieces.now valuation)) made.items) }
     ensures meter { IsMetered meter.old meter.new result }
 {
@@ -177,7 +177,6 @@ pub(crate) fn image_of(
         → IfOk result (λ value. Has value valuation element ↔ ImageHas image (Has a.now valuation) element) }
 
     // How it is written, and what that cost.
-    ensures definitions { HasNoDefinitions a.now → IfOk result HasNoDefinitions }
     ensures numbers { IfOk result (IsWithinLimit meter.old) }
     ensures meter { IsMeteredAnswer meter.old meter.new result }
 {

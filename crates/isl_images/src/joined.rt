@@ -6,7 +6,7 @@ ghost use Rattle.isl_space.specs.Names.{joined};
 ghost use Rattle.isl_space.specs.Space.{space_form_of};
 ghost use Rattle.isl_space.specs.SpaceForm.{IsWellFormedSpace};
 ghost use Rattle.isl_space.specs.Valuation.{Valuation};
-ghost use Rattle.isl_union.specs.KeptValue.{Has, HasNoDefinitions, IsKeptValue};
+ghost use Rattle.isl_union.specs.KeptValue.{Has, IsKeptValue};
 ghost use Rattle.isl_union.specs.Numbers.{IsWithinLimit};
 ghost use Rattle.isl_relation.specs.Formed.{FormsJoin};
 ghost use Rattle.isl_relation.specs.Maps.{ApplyHas, JoinHas};
@@ -95,7 +95,6 @@ pub fn apply(alloc: Global, a: &Value, b: &Value, meter: &mut Meter) -> Result<V
         → IfOk result (λ value. Has value valuation element ↔ ApplyHas (Has a.now valuation) (Has b.now valuation) element) }
 
     // How it is written, and what that cost.
-    ensures definitions { HasNoDefinitions a.now → HasNoDefinitions b.now → IfOk result HasNoDefinitions }
     ensures numbers { IfOk result (IsWithinLimit meter.old) }
     ensures units { IsWorkedFrom (joined a.now.params b.now.params) (pairs_together is_domain a.now b.now)
         meter.old meter.new result }
@@ -126,7 +125,6 @@ pub fn join(alloc: Global, a: &Value, b: &Value, meter: &mut Meter) -> Result<Va
         → IfOk result (λ value. Has value valuation element ↔ JoinHas (Has a.now valuation) (Has b.now valuation) element) }
 
     // How it is written, and what that cost.
-    ensures definitions { HasNoDefinitions a.now → HasNoDefinitions b.now → IfOk result HasNoDefinitions }
     ensures numbers { IfOk result (IsWithinLimit meter.old) }
     ensures units { IsFormedFrom (joined a.now.params b.now.params) (PairsTooWide FormsJoin a.now b.now)
         (pairs_together are_linked a.now b.now) meter.old meter.new result }

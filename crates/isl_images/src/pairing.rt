@@ -11,7 +11,7 @@ ghost use Rattle.isl_union.specs.Numbers.{AreWithinLimit};
 ghost use Rattle.isl_union.specs.Piece.{IsPieceOf};
 ghost use Rattle.isl_relation.specs.Maps.{ApplyHas, JoinHas};
 ghost use Rattle.isl_relation.specs.Together.{are_linked, is_domain, pair_count, pairs_of, partners, spaces_of};
-ghost use Rattle.isl_images.specs.Made.{elements_of, elements_of_all, ArePiecesOf, IsPlain};
+ghost use Rattle.isl_images.specs.Made.{elements_of, elements_of_all, ArePiecesOf};
 ghost use Rattle.isl_images.specs.Pairing.{IsNarrowPair, PairHas, are_paired, may_pair};
 
 use crate::shadow::{Gap, pieces_without};
@@ -45,7 +45,7 @@ fn applied(
     requires set { IsPieceOf params.now set.now }
     requires map_within { IsSystemWithin meter.old map.now.system }
     requires set_within { IsSystemWithin meter.old set.now.system }
-    ensures made { IfOk result (λ made. ArePiecesOf meter.old params.now (IsPlain map.now × IsPlain set.now)
+    ensures made { IfOk result (λ made. ArePiecesOf meter.old params.now ⊥
         (λ valuation. ApplyHas (elements_of params.now map.now valuation) (elements_of params.now set.now valuation)) made.items) }
     ensures units { IsMeteredFrom (pair_count is_domain map.now.space set.now.space) meter.old meter.new result }
 {
@@ -79,7 +79,7 @@ fn joined(
     requires first_within { IsSystemWithin meter.old first.now.system }
     requires second_within { IsSystemWithin meter.old second.now.system }
     requires narrow { IsNarrowPair Pairing.Join first.now.space second.now.space }
-    ensures made { IfOk result (λ made. ArePiecesOf meter.old params.now (IsPlain first.now × IsPlain second.now)
+    ensures made { IfOk result (λ made. ArePiecesOf meter.old params.now ⊥
         (λ valuation. JoinHas (elements_of params.now first.now valuation) (elements_of params.now second.now valuation)) made.items) }
     ensures units { IsMeteredFrom (pair_count are_linked first.now.space second.now.space) meter.old meter.new result }
 {
@@ -114,7 +114,7 @@ fn pair_pieces(
     requires first_within { IsSystemWithin meter.old first.now.system }
     requires second_within { IsSystemWithin meter.old second.now.system }
     requires narrow { IsNarrowPair pairing first.now.space second.now.space }
-    ensures made { IfOk result (λ made. ArePiecesOf meter.old params.now (IsPlain first.now × IsPlain second.now)
+    ensures made { IfOk result (λ made. ArePiecesOf meter.old params.now ⊥
         (λ valuation. PairHas pairing (elements_of params.now first.now valuation) (elements_of params.now second.now valuation))
         made.items) }
     ensures units { IsMeteredFrom (pair_count (are_paired pairing) first.now.space second.now.space) meter.old meter.new result }
@@ -140,7 +140,7 @@ fn pieces_among(
     requires piece_within { IsSystemWithin meter.old piece.now.system }
     requires others_within { AreWithinLimit meter.old others.now }
     requires narrow { All (λ other. IsNarrowPair pairing piece.now.space other.space) others.now }
-    ensures made { IfOk result (λ made. ArePiecesOf meter.old params.now (IsPlain piece.now × All IsPlain others.now)
+    ensures made { IfOk result (λ made. ArePiecesOf meter.old params.now ⊥
         (λ valuation. PairHas pairing (elements_of params.now piece.now valuation) (elements_of_all params.now others.now valuation))
         made.items) }
     ensures units { IsMeteredFrom (partners (are_paired pairing) (spaces_of others.now) piece.now.space) meter.old meter.new result }
@@ -193,7 +193,7 @@ fn pieces_with(
     requires piece_within { IsSystemWithin meter.old piece.now.system }
     requires others_within { AreWithinLimit meter.old others.now }
     requires narrow { All (λ other. IsNarrowPair pairing piece.now.space other.space) others.now }
-    ensures made { IfOk result (λ made. ArePiecesOf meter.old params.now (IsPlain piece.now × All IsPlain others.now)
+    ensures made { IfOk result (λ made. ArePiecesOf meter.old params.now ⊥
         (λ valuation. PairHas pairing (elements_of params.now piece.now valuation) (elements_of_all params.now others.now valuation))
         made.items) }
     ensures units { IsMeteredFrom (partners (are_paired pairing) (spaces_of others.now) piece.now.space) meter.old meter.new result }
@@ -217,7 +217,7 @@ pub(crate) fn all_pairs(
     requires pieces_within { AreWithinLimit meter.old pieces.now }
     requires others_within { AreWithinLimit meter.old others.now }
     requires narrow { All (λ piece. All (λ other. IsNarrowPair pairing piece.space other.space) others.now) pieces.now }
-    ensures made { IfOk result (λ made. ArePiecesOf meter.old params.now (All IsPlain pieces.now × All IsPlain others.now)
+    ensures made { IfOk result (λ made. ArePiecesOf meter.old params.now ⊥
         (λ valuation. PairHas pairing (elements_of_all params.now pieces.now valuation) (elements_of_all params.now others.now valuation))
         made.items) }
     ensures units { IsMeteredFrom (pairs_of (are_paired pairing) (spaces_of pieces.now) (spaces_of others.now)) meter.old meter.new result }

@@ -4,7 +4,7 @@ ghost use Rattle.std.specs.Prelude.{◌≡◌, ◌↔◌, IfOk};
 ghost use Rattle.isl_space.specs.Element.{Element};
 ghost use Rattle.isl_space.specs.Valuation.{Valuation};
 ghost use Rattle.isl_union.specs.Fault.{IsMeteredAnswer};
-ghost use Rattle.isl_union.specs.KeptValue.{Has, HasNoDefinitions, IsKeptValue};
+ghost use Rattle.isl_union.specs.KeptValue.{Has, IsKeptValue};
 ghost use Rattle.isl_union.specs.Numbers.{IsWithinLimit};
 ghost use Rattle.isl_relation.specs.Maps.{DomainHas, RangeHas};
 
@@ -29,7 +29,6 @@ pub fn domain(alloc: Global, a: &Value, meter: &mut Meter) -> Result<Value, OpFa
         → IfOk result (λ value. Has value valuation element ↔ DomainHas (Has a.now valuation) element) }
 
     // How it is written, and what that cost.
-    ensures definitions { HasNoDefinitions a.now → IfOk result HasNoDefinitions }
     ensures numbers { IfOk result (IsWithinLimit meter.old) }
     ensures meter { IsMeteredAnswer meter.old meter.new result }
 {
@@ -52,7 +51,6 @@ pub fn range(alloc: Global, a: &Value, meter: &mut Meter) -> Result<Value, OpFau
         → IfOk result (λ value. Has value valuation element ↔ RangeHas (Has a.now valuation) element) }
 
     // How it is written, and what that cost.
-    ensures definitions { HasNoDefinitions a.now → IfOk result HasNoDefinitions }
     ensures numbers { IfOk result (IsWithinLimit meter.old) }
     ensures meter { IsMeteredAnswer meter.old meter.new result }
 {

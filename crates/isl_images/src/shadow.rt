@@ -1,6 +1,6 @@
 //! What is left of systems without some of their coordinates.
 
-ghost use Rattle.std.specs.Prelude.{◌≡◌, ◌≤◌, [], IfOk, length};
+ghost use Rattle.std.specs.Prelude.{◌≤◌, IfOk, length};
 ghost use Rattle.isl_meter.specs.Gauge.{IsMetered};
 ghost use Rattle.isl_space.specs.Space.{space_form_of};
 ghost use Rattle.isl_space.specs.SpaceForm.{IsWellFormedSpace};
@@ -8,9 +8,10 @@ ghost use Rattle.isl_piece.specs.System.{IsSystemWithin};
 ghost use Rattle.isl_images.specs.Made.{ArePiecesOf};
 ghost use Rattle.isl_images.specs.Shadow.{HasGap, IsShadow};
 
-use isl_elim::{columns_between, eliminate_all};
+use isl_elim::columns_between;
 use isl_meter::{Cut, Meter};
 use isl_piece::{Piece, System};
+use isl_quotient::project;
 use isl_space::{Params, Space};
 use isl_union::live_pieces_in;
 use std::alloc::Global;
@@ -35,7 +36,7 @@ pub(crate) fn pieces_without(
     requires formed { IsWellFormedSpace (space_form_of space.now) }
     requires within { IsSystemWithin meter.old system.now }
     requires gap { HasGap params.now (space_form_of space.now) system.now gap }
-    ensures made { IfOk result (λ pieces. ArePiecesOf meter.old params.now (system.now.definitions ≡ [])
+    ensures made { IfOk result (λ pieces. ArePiecesOf meter.old params.now ⊥
         (IsShadow params.now (space_form_of space.now) system.now gap) pieces.items) }
     ensures meter { IsMetered meter.old meter.new result }
 {
@@ -43,6 +44,6 @@ pub(crate) fn pieces_without(
     let _free = system.free();
     let first = params.len() + gap.from;
     let columns = columns_between(alloc, first, first + gap.count)?;
-    let systems = eliminate_all(alloc, system, columns.as_slice(), meter)?;
+    let systems = project(alloc, system, columns.as_slice(), meter)?;
     live_pieces_in(alloc, params, space, systems, meter)
 }

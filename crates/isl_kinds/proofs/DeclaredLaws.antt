@@ -8,16 +8,17 @@ use Rattle.std.proofs.lemmas.List.Folds.{list_any-append}
 use Rattle.std.proofs.lemmas.Slice.Eq.{bytes_eq-Decides}
 use Rattle.indexmap.specs.IndexSet.{insert_key}
 use Rattle.isl_space.specs.Name.{Name}
-use Rattle.isl_expr.specs.declared.tree.Prefix.{Prefix as Word}
-use Rattle.isl_expr.specs.declared.tree.Link.{Link}
-use Rattle.isl_expr.specs.declared.tree.Postfix.{Postfix, Inverse, Apply, Item}
-use Rattle.isl_expr.specs.declared.tree.Expr as e
-use Rattle.isl_expr.specs.declared.tree.Expr.{Expr, Row, Prefix, Any, Last, Post, Row', Prefix', Any', Last', Post', Row_of-Expr}
-use Rattle.isl_expr.specs.declared.tree.Expr.{end_of-Expr, more_of-Expr}
-use Rattle.isl_expr.specs.declared.tree.Expr.{Row_of-Link, end_of-Link, more_of-Link}
-use Rattle.isl_expr.specs.declared.tree.Expr.{Row_of-Postfix, end_of-Postfix, more_of-Postfix, items-the_row-Link, items-the_row-Postfix}
-use Rattle.isl_expr.specs.declared.tree.Expr.{items_hidden-the_row-Link-1, items_hidden-the_row-Postfix-2}
-use Rattle.isl_expr.specs.declared.tree.Expr.TheBlock.{hidden-the_row-Expr-0, hidden-the_row-Link-1, hidden-the_row-Postfix-2}
+use Rattle.isl_tree.specs.declared.statement.Prefix.{Prefix as Word}
+use Rattle.isl_tree.specs.declared.statement.Link.{Link}
+use Rattle.isl_tree.specs.declared.statement.Postfix.{Postfix, Inverse, Apply, Item}
+use Rattle.isl_tree.specs.declared.statement.Expr as e
+use Rattle.isl_tree.specs.declared.statement.Expr.{Expr, Row, Prefix, Any, Last, Post, Row', Prefix', Any', Last', Post', Row_of-Expr}
+use Rattle.isl_tree.specs.declared.statement.Expr.{end_of-Expr, more_of-Expr}
+use Rattle.isl_tree.specs.declared.statement.Expr.{Row_of-Link, end_of-Link, more_of-Link}
+use Rattle.isl_tree.specs.declared.statement.Expr.{Row_of-Postfix, end_of-Postfix, more_of-Postfix, items-the_row-Link}
+use Rattle.isl_tree.specs.declared.statement.Expr.{items-the_row-Postfix}
+use Rattle.isl_tree.specs.declared.statement.Expr.{items_hidden-the_row-Link-1, items_hidden-the_row-Postfix-2}
+use Rattle.isl_tree.specs.declared.statement.Expr.TheBlock.{hidden-the_row-Expr-0, hidden-the_row-Link-1, hidden-the_row-Postfix-2}
 use Rattle.isl_kinds.specs.Typed.{ScopeView, TypeView, bound_to, params_of, joined_names, declared_of, declared_in, declared_past_links}
 use Rattle.isl_kinds.specs.Typed.{declared_past_postfixes, declared_past}
 use Rattle.isl_kinds.specs.Typed.{declared_of_row, declared_of_post}

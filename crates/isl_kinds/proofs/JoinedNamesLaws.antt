@@ -17,9 +17,10 @@ use Rattle.std.proofs.lemmas.Slice.Eq.{bytes_eq-Decides}
 use Rattle.indexmap.specs.IndexSet.{insert_key}
 use Rattle.isl_space.specs.Name.{Name}
 use Rattle.isl_space.specs.Names.{AreDistinct, is_among, joined}
-use Rattle.isl_expr.specs.declared.tree.Link.{Link}
-use Rattle.isl_expr.specs.declared.tree.Postfix.{Postfix, Inverse, Apply, Item}
-use Rattle.isl_expr.specs.declared.tree.Expr.{Expr, Row_of-Link, end_of-Link, more_of-Link, Row_of-Postfix, end_of-Postfix, more_of-Postfix}
+use Rattle.isl_tree.specs.declared.statement.Link.{Link}
+use Rattle.isl_tree.specs.declared.statement.Postfix.{Postfix, Inverse, Apply, Item}
+use Rattle.isl_tree.specs.declared.statement.Expr.{Expr, Row_of-Link, end_of-Link, more_of-Link, Row_of-Postfix, end_of-Postfix}
+use Rattle.isl_tree.specs.declared.statement.Expr.{more_of-Postfix}
 use Rattle.isl_kinds.specs.Typed.{ScopeView, declared_of, declared_past_links, declared_past_postfixes, declared_past, joined_names}
 use Rattle.isl_kinds.specs.Typed.{declared_of_row, declared_of_post}
 use Rattle.isl_kinds.proofs.DeclaredLaws.{once, other_is_there}

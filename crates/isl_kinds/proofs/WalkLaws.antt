@@ -4,10 +4,10 @@ use Rattle.std.specs.List.{list_any}
 use Rattle.std.proofs.lemmas.List.Folds.{list_any-append}
 use Rattle.isl_space.specs.Name.{Name as Text}
 use Rattle.isl_tree.specs.declared.tree.Literal.{Literal as Tree}
-use Rattle.isl_expr.specs.declared.tree.Prefix.{Prefix as Word}
-use Rattle.isl_expr.specs.declared.tree.Link.{Link}
-use Rattle.isl_expr.specs.declared.tree.Postfix.{Postfix}
-use Rattle.isl_expr.specs.declared.tree.Expr.{Expr, Name, Literal, Row, Prefix, Any, Last, Post}
+use Rattle.isl_tree.specs.declared.statement.Prefix.{Prefix as Word}
+use Rattle.isl_tree.specs.declared.statement.Link.{Link}
+use Rattle.isl_tree.specs.declared.statement.Postfix.{Postfix}
+use Rattle.isl_tree.specs.declared.statement.Expr.{Expr, Name, Literal, Row, Prefix, Any, Last, Post}
 use Rattle.isl_kinds.specs.Parts.{Part, parts_of, parts_of_postfix, parts_of_links, parts_of_postfixes}
 use Rattle.isl_kinds.specs.Parts as part
 use Rattle.isl_kinds.proofs.PartLaws.{parts_of-Row, parts_of-Post, parts_of-Prefix, parts_of-Any, parts_of-Last}

@@ -1,11 +1,11 @@
 //! The table of kinds: which operands an operation takes, and what it makes of them.
 
 ghost use Rattle.std.specs.Prelude.{◌≡◌, ◌++◌};
-ghost use Rattle.isl_expr.specs.declared.tree.ValueKind.TheVariants.{Map, Set};
+ghost use Rattle.isl_tree.specs.declared.statement.ValueKind.TheVariants.{Map, Set};
 ghost use Rattle.isl_kinds.specs.Lines as spec;
 
-use isl_expr::tree::{Binary, Prefix, ValueKind};
-use isl_expr::words::row_of;
+use isl_tree::statement::{Binary, Prefix, ValueKind};
+use isl_tree::words::row_of;
 
 // Kinds of two operands, and the kind of what is made of them.
 type Line = (ValueKind, ValueKind, ValueKind);

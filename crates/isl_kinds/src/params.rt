@@ -6,8 +6,8 @@ ghost use Rattle.isl_kinds.specs.Typed.{joined_names};
 
 use crate::Scope;
 use indexmap::IndexSet;
-use isl_expr::tree::{Expr, Link, Postfix};
 use isl_space::Name;
+use isl_tree::statement::{Expr, Link, Postfix};
 use std::alloc::{AllocError, Global};
 
 // Puts those of the others that are new behind the names.

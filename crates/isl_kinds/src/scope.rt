@@ -7,8 +7,8 @@ ghost use Rattle.indexmap.specs.IndexMap.{insert_entry};
 ghost use Rattle.isl_kinds.specs.Typed.{bound_to, is_dollar};
 
 use indexmap::{IndexMap, IndexSet};
-use isl_expr::tree::ValueKind;
 use isl_space::Name;
+use isl_tree::statement::ValueKind;
 use std::alloc::{AllocFailed, Global};
 use std::marker::Model;
 

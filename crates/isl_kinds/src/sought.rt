@@ -5,7 +5,7 @@ ghost use Rattle.isl_kinds.specs.Typed as spec;
 
 use crate::known::is_known;
 use crate::{Part, PartTest, Scope, any_part};
-use isl_expr::tree::Expr;
+use isl_tree::statement::Expr;
 
 // Names that are unbound, and literals with identifiers that are unknown.
 #[derive(Drop)]

@@ -11,8 +11,8 @@ use crate::lines::{applied, dependence, inverse, item, joined, prefixed};
 use crate::params::declared;
 use crate::sought::{has_no_item, has_unknown};
 use crate::{Scope, Typed};
-use isl_expr::tree::{Binary, Expr, Link, Postfix, Prefix, Stmt, ValueKind};
 use isl_refusal::Refusal;
+use isl_tree::statement::{Binary, Expr, Link, Postfix, Prefix, Stmt, ValueKind};
 use isl_tree::tree::PieceTree;
 use std::alloc::Global;
 

@@ -6,8 +6,8 @@ ghost use Rattle.isl_kinds.specs.Parts as spec;
 ghost use Rattle.isl_kinds.specs.Parts.{parts_of, parts_of_links, parts_of_postfix, parts_of_postfixes};
 ghost use Rattle.isl_kinds.specs.Walk.{part_of};
 
-use isl_expr::tree::{Binary, Expr, Link, Postfix, Prefix};
 use isl_space::Name;
+use isl_tree::statement::{Binary, Expr, Link, Postfix, Prefix};
 use isl_tree::tree::Literal;
 
 /// What an expression has beside its operands.

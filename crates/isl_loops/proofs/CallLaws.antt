@@ -144,7 +144,7 @@ all_done P xs i end all = subst (All P) (take_all i xs end) all
 -- while units are used
 pub over_charged : (g h : Gauge) (params times : ℕ) (item : Item) → IsCharged g h → IsOver g params times item → IsOver h params times item
 over_charged g h params times item charged is =
-    record { covered = covered_later g h item charged is.covered; params_are = is.params_are; times_are = is.times_are }
+    record { covered = covered_later g h item charged is.covered; params_are = is.params_are; times_are = is.times_are; named = is.named }
 
 -- the cover over the columns and one more
 pub cover_over : (g : Gauge) (params times : ℕ) (item : Item) → IsOver g params times item → (columns : ℕ) → params ≤ columns

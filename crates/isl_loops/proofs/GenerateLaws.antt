@@ -65,6 +65,7 @@ module _ (g : Gauge) (value : KeptValue) (items : List Item) (are : AreItemsOf g
     params = are.params;
     times = are.times;
     narrow = are.narrow;
+    named = are.named;
     exact = are.exact;
     once = are.once;
     sets = are.sets;
@@ -74,7 +75,12 @@ module _ (g : Gauge) (value : KeptValue) (items : List Item) (are : AreItemsOf g
   pub items_over : (params times : ℕ) → params ≡ length value.params → All (λ item. item.times ≡ times) items
       → All (IsOver g params times) items
   items_over params times e same = λ k d low.
-      record { covered = are.covered k d low; params_are = are.params k d low ∙ sym e; times_are = same k d low }
+      record {
+        covered = are.covered k d low;
+        params_are = are.params k d low ∙ sym e;
+        times_are = same k d low;
+        named = are.named k d low;
+      }
 
   -- distinct parameters may have any numbers, and at each the items never call the same at one time
   pub items_apart : (params : ℕ) → params ≡ length value.params → IsParameterList value.params → AllPairs (AreApart params) items

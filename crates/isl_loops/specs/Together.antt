@@ -1,7 +1,8 @@
 -- public: loops of several items: in one loop, or one after another. (Bastoul, code generation in the polyhedral model; isl manual, on
 -- abstract syntax trees)
-use Rattle.std.specs.Prelude.{◌≡◌, ℕ, ◌≤◌, ℤ, ◌<ℤ◌, List, [], ◌∷◌, ◌++◌, All, AllPairs, Any, length}
+use Rattle.std.specs.Prelude.{◌≡◌, ℕ, ◌≤◌, ℤ, ◌<ℤ◌, List, [], ◌∷◌, ◌++◌, All, AllPairs, Any, IfSome, length}
 use Rattle.isl_meter.specs.Gauge.{Gauge}
+use Rattle.isl_space.specs.Name.{IsLiteralName}
 use Rattle.isl_frame.specs.Frame.{columns_at}
 use Rattle.isl_loop.specs.declared.tree.Loop.{Loop}
 use Rattle.isl_loop.specs.Nest.{Lists, Timed}
@@ -12,11 +13,12 @@ use Rattle.isl_nest.specs.Places.{Stands}
 use Rattle.isl_nest.specs.declared.item.Item.{Item}
 use Rattle.isl_nest.specs.declared.place.Place.{Place}
 
--- an item with covers, over so many parameters, whose times have so many numbers
+-- an item with covers, over so many parameters, whose times have so many numbers; what it calls has no name, or one that may stand in a literal
 pub record IsOver (g : Gauge) (params times : ℕ) (item : Item) : Type 0 where
   pub covered : IsCovered g item
   pub params_are : item.params ≡ params
   pub times_are : item.times ≡ times
+  pub named : IfSome item.name IsLiteralName
 
 -- ---- calls
 -- some item calls this behind the columns

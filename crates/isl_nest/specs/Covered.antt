@@ -1,8 +1,7 @@
 -- public: items that nests are made of: well formed, with covers that end each column on both sides. (Bastoul, code generation in the
 -- polyhedral model)
-use Rattle.std.specs.Prelude.{◌≡◌, ℕ, ◌+◌, ◌^◌, ◌<◌, ◌≤◌, ℤ, List, [], All, Contains, IfSome, length, slice_index_or}
+use Rattle.std.specs.Prelude.{◌≡◌, ℕ, ◌+◌, ◌^◌, ◌<◌, ◌≤◌, ℤ, List, [], All, Contains, length, slice_index_or}
 use Rattle.isl_meter.specs.Gauge.{Gauge}
-use Rattle.isl_space.specs.Name.{IsLiteralName}
 use Rattle.isl_piece.specs.declared.row.Row.{Row}
 use Rattle.isl_piece.specs.Row.{IsWellFormed}
 use Rattle.isl_frame.specs.Needed.{AreRowsOver}
@@ -22,9 +21,8 @@ view_of item = record {
   rows = item.rows;
 }
 
--- The name of the calls may stand in a literal. The time is among the columns, and each column behind the time is an argument.
+-- The time is among the columns, and each column behind the time is an argument.
 pub record IsItem (item : ItemView) : Type 0 where
-  pub named : IfSome item.name IsLiteralName
   pub formed : All (IsWellFormed (item.params + item.levels)) item.rows
   pub times : item.times ≤ item.levels
   pub arguments : All (λ at. at < item.params + item.levels) item.arguments

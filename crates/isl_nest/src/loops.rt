@@ -2,6 +2,7 @@
 
 ghost use Rattle.std.specs.Prelude.{◌≡◌, ◌+◌, ◌≤◌, ℕ, IfOk, IfSome, MatchOption, length};
 ghost use Rattle.isl_meter.specs.Gauge.{IsMetered};
+ghost use Rattle.isl_space.specs.Name.{IsLiteralName};
 ghost use Rattle.isl_loop.specs.Formed.{IsLoopOver};
 ghost use Rattle.isl_loop.specs.Printable.{IsPrintable};
 ghost use Rattle.isl_nest.specs.Changing.{AsksWhatChanges};
@@ -44,7 +45,7 @@ fn call(alloc: Global, item: &Item, place: &Place, meter: &Meter) -> Result<Loop
     ensures call { IfOk result (IsCallAt (view_of item.now) place.now) }
     ensures over { IfOk result (IsLoopOver meter.now place.now.variables) }
     ensures changing { (n : ℕ) → IfOk result (AsksWhatChanges n) }
-    ensures printable { (n : ℕ) → IfOk result (IsPrintable n) }
+    ensures printable { IfSome item.now.name IsLiteralName → (n : ℕ) → IfOk result (IsPrintable n) }
 {
     // For what a meter keeps: it has at least 8 bits.
     let _limit = meter.limit();
@@ -77,7 +78,8 @@ pub fn nest(
         (IsNest (view_of item.now) left place.now)) }
     ensures over { IfOk result (λ nested. IfSome nested (IsNestOver meter.old place.now.variables)) }
     ensures changing { IfOk result (λ nested. IfSome nested (λ n. AsksWhatChanges place.now.variables n.tree)) }
-    ensures printable { IfOk result (λ nested. IfSome nested (λ n. IsPrintable place.now.variables n.tree)) }
+    ensures printable { IfSome item.now.name IsLiteralName
+        → IfOk result (λ nested. IfSome nested (λ n. IsPrintable place.now.variables n.tree)) }
     ensures meter { IsMetered meter.old meter.new result }
 {
     if left == 0 {
@@ -129,7 +131,7 @@ pub fn separate(
     ensures separate { IfOk result (IsSeparate (view_of item.now) left place.now) }
     ensures over { IfOk result (IsLoopOver meter.old place.now.variables) }
     ensures changing { IfOk result (AsksWhatChanges place.now.variables) }
-    ensures printable { IfOk result (IsPrintable place.now.variables) }
+    ensures printable { IfSome item.now.name IsLiteralName → IfOk result (IsPrintable place.now.variables) }
     ensures meter { IsMetered meter.old meter.new result }
 {
     let variables = place.variables;

@@ -7,8 +7,8 @@ use Rattle.isl_space.specs.Form.{Form, width_of}
 use Rattle.isl_space.specs.SpaceForm.{SpaceForm, set_of, map_of, coordinates_of}
 use Rattle.isl_space.specs.Valuation.{Valuation}
 use Rattle.isl_union.specs.KeptValue.{KeptPiece, KeptValue, Has, HasElement}
-use Rattle.isl_expr.specs.declared.tree.Binary.{Binary}
-use Rattle.isl_expr.specs.declared.tree.Binary.TheVariants as b
+use Rattle.isl_tree.specs.declared.statement.Binary.{Binary}
+use Rattle.isl_tree.specs.declared.statement.Binary.TheVariants as b
 use Rattle.isl_relation.specs.Point.{Point, HasPoint, IsPoint, map_element}
 use Rattle.isl_relation.specs.Maps.{RemoveDomainHas, RestrictDomainHas}
 use Rattle.isl_relation.specs.Wide.{IsLiveIn}

@@ -9,9 +9,9 @@ use Rattle.isl_space.specs.Valuation.{Valuation}
 use Rattle.isl_union.specs.KeptValue.{KeptValue, Has}
 use Rattle.isl_union.specs.Meet.{IsMeetOf}
 use Rattle.isl_union.specs.declared.fault.OpFault.{OpFault}
-use Rattle.isl_expr.specs.declared.tree.Binary.{Binary}
-use Rattle.isl_expr.specs.declared.tree.Binary.TheVariants as b
-use Rattle.isl_expr.specs.declared.tree.Prefix.{Prefix}
+use Rattle.isl_tree.specs.declared.statement.Binary.{Binary}
+use Rattle.isl_tree.specs.declared.statement.Binary.TheVariants as b
+use Rattle.isl_tree.specs.declared.statement.Prefix.{Prefix}
 use Rattle.isl_operators.specs.Operations.{OperatorHas, WordHas}
 use Rattle.isl_operators.specs.Formed.{FormsWide, OperatorForms, PairsWide, WordForms}
 use Rattle.isl_operators.specs.Made.{HasMaps, HasSets, IsIntersectionOf, IsOperatorOf, IsOver, IsPaid, IsWhyNone, IsWordOf}

@@ -3,10 +3,10 @@ use Rattle.std.specs.Prelude.{◌≡◌, ◌⊎◌}
 use Rattle.isl_space.specs.Valuation.{Valuation}
 use Rattle.isl_space.specs.Element.{Element}
 use Rattle.isl_space.specs.SpaceForm.{SpaceForm, IsTooWideSpace}
-use Rattle.isl_expr.specs.declared.tree.Binary.{Binary}
-use Rattle.isl_expr.specs.declared.tree.Binary.TheVariants as b
-use Rattle.isl_expr.specs.declared.tree.Prefix.{Prefix}
-use Rattle.isl_expr.specs.declared.tree.Prefix.TheVariants as p
+use Rattle.isl_tree.specs.declared.statement.Binary.{Binary}
+use Rattle.isl_tree.specs.declared.statement.Binary.TheVariants as b
+use Rattle.isl_tree.specs.declared.statement.Prefix.{Prefix}
+use Rattle.isl_tree.specs.declared.statement.Prefix.TheVariants as p
 use Rattle.isl_relation.specs.Formed.{FormsUniversal, FormsCrossSets, FormsCrossMaps, FormsJoin}
 use Rattle.isl_relation.specs.Formed.{FormsIdentity, FormsDomainMap, FormsRangeMap, FormsSame, FormsAccess}
 

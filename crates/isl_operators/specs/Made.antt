@@ -15,11 +15,11 @@ use Rattle.isl_union.specs.Union.{IsUnionOf}
 use Rattle.isl_union.specs.Meet.{IsMeetOf}
 use Rattle.isl_union.specs.declared.fault.OpFault.{OpFault}
 use Rattle.isl_union.specs.declared.fault.OpFault.TheVariants as op_fault
-use Rattle.isl_expr.specs.declared.tree.Binary.{Binary}
-use Rattle.isl_expr.specs.declared.tree.Binary.TheVariants as b
-use Rattle.isl_expr.specs.declared.tree.Prefix.{Prefix}
-use Rattle.isl_expr.specs.declared.tree.Prefix.TheVariants as p
-use Rattle.isl_expr.specs.Words.{word_row}
+use Rattle.isl_tree.specs.declared.statement.Binary.{Binary}
+use Rattle.isl_tree.specs.declared.statement.Binary.TheVariants as b
+use Rattle.isl_tree.specs.declared.statement.Prefix.{Prefix}
+use Rattle.isl_tree.specs.declared.statement.Prefix.TheVariants as p
+use Rattle.isl_tree.specs.Words.{word_row}
 use Rattle.isl_relation.specs.Wide.{IsFormFault, IsLiveIn}
 use Rattle.isl_coalesce.specs.Coalesced.{IsCoalesced}
 pub use Rattle.isl_outcome.specs.Why.{IsPaid}

@@ -4,7 +4,7 @@ ghost use Rattle.std.specs.Prelude.{◌≡◌, ◌↔◌, true, IfOk, MatchResul
 ghost use Rattle.isl_space.specs.Element.{Element};
 ghost use Rattle.isl_space.specs.Names.{joined};
 ghost use Rattle.isl_space.specs.Valuation.{Valuation};
-ghost use Rattle.isl_union.specs.KeptValue.{Has, HasNoDefinitions, IsKeptValue};
+ghost use Rattle.isl_union.specs.KeptValue.{Has, IsKeptValue};
 ghost use Rattle.isl_union.specs.Numbers.{IsWithinLimit};
 ghost use Rattle.isl_operators.specs.Operations.{ApplicationHas};
 ghost use Rattle.isl_operators.specs.Formed.{ApplicationForms, PairsWide};
@@ -39,7 +39,6 @@ pub fn applied(
     ensures elements { (valuation : Valuation) (element : Element)
         → IfOk result (λ value. Has value valuation element
         ↔ ApplicationHas (Has map.now valuation) (Has argument.now valuation) element) }
-    ensures definitions { HasNoDefinitions map.now → HasNoDefinitions argument.now → IfOk result HasNoDefinitions }
     ensures numbers { IfOk result (IsWithinLimit meter.old) }
     ensures narrow { IfOk result (λ _. ¬ PairsWide ApplicationForms (Has map.now) (Has argument.now)) }
     ensures units { MatchResult result (λ _. IsPaid true meter.old meter.new)

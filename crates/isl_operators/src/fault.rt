@@ -1,6 +1,6 @@
 //! Why a word makes no value.
 
-use isl_extremes::LexFault;
+use isl_lex::LexFault;
 use isl_meter::Cut;
 use isl_union::OpFault;
 use thiserror::Error;

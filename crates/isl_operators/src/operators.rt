@@ -1,6 +1,6 @@
 //! What operators make of two values.
 
-ghost use Rattle.std.specs.Prelude.{◌≡◌, ◌↔◌, true, IfOk, MatchResult};
+ghost use Rattle.std.specs.Prelude.{◌≡◌, ◌↔◌, false, true, IfOk, MatchResult};
 ghost use Rattle.isl_space.specs.Element.{Element};
 ghost use Rattle.isl_space.specs.Names.{joined};
 ghost use Rattle.isl_space.specs.Valuation.{Valuation};
@@ -14,9 +14,9 @@ ghost use Rattle.isl_operators.specs.Made.{HasMaps, HasSets, IsOperatorOf, IsPai
 
 use crate::pairing::{Pairing, paired};
 use crate::spaces::{has_sets, may_begin};
-use isl_expr::tree::Binary;
 use isl_maps::{join, remove_domain, remove_range, restrict_domain, restrict_range, universal};
 use isl_meter::Meter;
+use isl_tree::statement::Binary;
 use isl_union::{OpFault, Value};
 use std::alloc::Global;
 
@@ -100,7 +100,7 @@ pub fn combined(
     ensures elements { (valuation : Valuation) (element : Element)
         → IfOk result (λ value. Has value valuation element
         ↔ OperatorHas operator (Has left.now valuation) (Has right.now valuation) element) }
-    ensures definitions { HasNoDefinitions left.now → HasNoDefinitions right.now → IfOk result HasNoDefinitions }
+    ensures definitions { operator_works operator ≡ false → HasNoDefinitions left.now → HasNoDefinitions right.now → IfOk result HasNoDefinitions }
     ensures numbers { IfOk result (IsWithinLimit meter.old) }
     ensures narrow { IfOk result (λ _. ¬ PairsWide (OperatorForms operator) (Has left.now) (Has right.now)) }
     ensures units { MatchResult result (λ _. IsPaid (operator_works operator) meter.old meter.new)

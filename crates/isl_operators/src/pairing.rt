@@ -6,19 +6,19 @@ ghost use Rattle.isl_space.specs.Names.{joined};
 ghost use Rattle.isl_space.specs.Valuation.{Valuation};
 ghost use Rattle.isl_relation.specs.Together.{IsFormedFrom};
 ghost use Rattle.isl_relation.specs.Wide.{PairsTooWide};
-ghost use Rattle.isl_union.specs.KeptValue.{Has, HasNoDefinitions, IsKeptValue};
+ghost use Rattle.isl_union.specs.KeptValue.{Has, IsKeptValue};
 ghost use Rattle.isl_union.specs.Numbers.{IsWithinLimit};
 ghost use Rattle.isl_operators.specs.Formed.{PairsWide};
 ghost use Rattle.isl_operators.specs.Pairing.{MapsForm, MapsHave, PairingForms, PairingHas, SetsForm, SetsHave};
 
 use crate::spaces::{have_maps, have_sets};
 use crate::wide::have_wide_sets;
-use isl_maps::{cross_maps, cross_sets};
-use isl_meter::Meter;
-use isl_orders::{
+use isl_lex::{
     greater_eq_maps, greater_eq_sets, greater_maps, greater_sets, less_eq_maps, less_eq_sets,
     less_maps, less_sets,
 };
+use isl_maps::{cross_maps, cross_sets};
+use isl_meter::Meter;
 use isl_union::{OpFault, Value};
 use std::alloc::Global;
 
@@ -51,7 +51,6 @@ fn of_sets(
     ensures params { IfOk result (λ value. value.params ≡ joined left.now.params right.now.params) }
     ensures elements { (valuation : Valuation) (element : Element)
         → IfOk result (λ value. Has value valuation element ↔ SetsHave pairing (Has left.now valuation) (Has right.now valuation) element) }
-    ensures definitions { HasNoDefinitions left.now → HasNoDefinitions right.now → IfOk result HasNoDefinitions }
     ensures numbers { IfOk result (IsWithinLimit meter.old) }
     ensures units { IsFormedFrom (joined left.now.params right.now.params) (PairsTooWide (SetsForm pairing) left.now right.now) 0
         meter.old meter.new result }
@@ -79,7 +78,6 @@ fn of_maps(
     ensures params { IfOk result (λ value. value.params ≡ joined left.now.params right.now.params) }
     ensures elements { (valuation : Valuation) (element : Element)
         → IfOk result (λ value. Has value valuation element ↔ MapsHave pairing (Has left.now valuation) (Has right.now valuation) element) }
-    ensures definitions { HasNoDefinitions left.now → HasNoDefinitions right.now → IfOk result HasNoDefinitions }
     ensures numbers { IfOk result (IsWithinLimit meter.old) }
     ensures units { IsFormedFrom (joined left.now.params right.now.params) (PairsTooWide (MapsForm pairing) left.now right.now) 0
         meter.old meter.new result }
@@ -109,7 +107,6 @@ pub(crate) fn paired(
     ensures elements { (valuation : Valuation) (element : Element)
         → IfOk result (λ value. Has value valuation element
         ↔ PairingHas pairing (Has left.now valuation) (Has right.now valuation) element) }
-    ensures definitions { HasNoDefinitions left.now → HasNoDefinitions right.now → IfOk result HasNoDefinitions }
     ensures numbers { IfOk result (IsWithinLimit meter.old) }
     ensures units { IsFormedFrom (joined left.now.params right.now.params) (PairsWide (PairingForms pairing) (Has left.now) (Has right.now))
         0 meter.old meter.new result }

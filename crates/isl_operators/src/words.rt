@@ -1,10 +1,10 @@
 //! What words make of a value.
 
-ghost use Rattle.std.specs.Prelude.{◌≡◌, ◌↔◌, [], true, IfOk, MatchResult};
+ghost use Rattle.std.specs.Prelude.{◌≡◌, ◌↔◌, [], false, true, IfOk, MatchResult};
 ghost use Rattle.isl_meter.specs.Gauge.{IsMetered};
 ghost use Rattle.isl_space.specs.Element.{Element};
 ghost use Rattle.isl_space.specs.Valuation.{Valuation};
-ghost use Rattle.isl_expr.specs.Words.{word_row};
+ghost use Rattle.isl_tree.specs.Words.{word_row};
 ghost use Rattle.isl_union.specs.KeptValue.{Has, HasNoDefinitions, IsKeptValue};
 ghost use Rattle.isl_union.specs.Numbers.{IsWithinLimit};
 ghost use Rattle.isl_operators.specs.Operations.{WordHas, WordMisses, is_operation_word};
@@ -13,11 +13,11 @@ ghost use Rattle.isl_operators.specs.Made.{IsAnyWordOf, IsCoalescedFlat, IsPaid,
 
 use crate::WordFault;
 use isl_assumed::Assumed;
-use isl_coalesce::coalesce;
-use isl_expr::tree::Prefix;
-use isl_extremes::{lexmax, lexmin};
+use isl_lex::{lexmax, lexmin};
 use isl_maps::{deltas, domain, domain_map, identity, range, range_map, unwrap, wrap, zip};
 use isl_meter::{Cut, Meter};
+use isl_simplify::coalesce;
+use isl_tree::statement::Prefix;
 use isl_union::{OpFault, Value};
 use std::alloc::Global;
 
@@ -30,7 +30,7 @@ fn moved(alloc: Global, word: Prefix, operand: &Value, meter: &mut Meter) -> Res
     ensures params { IfOk result (λ value. value.params ≡ operand.now.params) }
     ensures elements { (valuation : Valuation) (element : Element)
         → IfOk result (λ value. Has value valuation element ↔ WordHas word operand.now.params (Has operand.now) valuation element) }
-    ensures definitions { HasNoDefinitions operand.now → IfOk result HasNoDefinitions }
+    ensures definitions { word_works word ≡ false → HasNoDefinitions operand.now → IfOk result HasNoDefinitions }
     ensures numbers { IfOk result (IsWithinLimit meter.old) }
     ensures narrow { IfOk result (λ _. ¬ FormsWide (WordForms word) (Has operand.now)) }
     ensures units { MatchResult result (λ _. IsPaid (word_works word) meter.old meter.new)
@@ -93,7 +93,7 @@ pub fn transformed(
         → IfOk result (λ value. Has value valuation element ↔ WordHas word operand.now.params (Has operand.now) valuation element) }
 
     // How it is written.
-    ensures definitions { HasNoDefinitions operand.now → IfOk result HasNoDefinitions }
+    ensures definitions { word_works word ≡ false → HasNoDefinitions operand.now → IfOk result HasNoDefinitions }
     ensures numbers { IfOk result (IsWithinLimit meter.old) }
 
     // Where there is one, and what that cost.

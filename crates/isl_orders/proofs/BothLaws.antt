@@ -11,9 +11,8 @@ pub both_made : (g : Gauge) (widths : List ℕ) (own : System) (picks : List ℕ
     (first second made : System)
     → IsSpread g widths picks own first → IsSpread g widths others other second
     → ((point : List ℤ) → length point ≡ free_columns first → HoldsSystem made point ↔ (HoldsSystem first point × HoldsSystem second point))
-    → IsSystemWithin g made → free_columns made ≡ free_columns first
-    → (first.definitions ≡ second.definitions → made.definitions ≡ first.definitions) → IsBoth g widths own picks other others made
-both_made g widths own picks other others first second made p q points within free plain = record {
+    → IsSystemWithin g made → free_columns made ≡ free_columns first → IsBoth g widths own picks other others made
+both_made g widths own picks other others first second made p q points within free = record {
   points = λ blocks are.
       let met = points (numbers_of blocks) (numbers_long blocks ∙ ap total are ∙ sym p.free) in
       let a = p.points blocks are in
@@ -21,5 +20,4 @@ both_made g widths own picks other others first second made p q points within fr
       ((λ h. (a.0 (met.0 h).0, b.0 (met.0 h).1)), (λ k. met.1 (a.1 k.0, b.1 k.1)));
   within = within;
   free = free ∙ p.free;
-  definitions = λ one two. plain (p.definitions one ∙ sym (q.definitions two)) ∙ p.definitions one;
 }

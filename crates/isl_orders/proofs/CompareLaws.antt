@@ -5,7 +5,6 @@ use Rattle.std.proofs.Common.{[], map, take, drop, take-append-drop, unsigned_ab
 use Rattle.std.specs.List.{All}
 use Rattle.std.proofs.lemmas.List.{length-drop, length-take-le}
 use Rattle.isl_math.specs.Order.{IsBefore}
-use Rattle.isl_math.proofs.ListLaws.{All-unmapped}
 use Rattle.isl_meter.specs.Gauge.{Gauge, IsCharged, limit_of}
 use Rattle.isl_space.specs.Element.{Element}
 use Rattle.isl_space.specs.Form.{Form, leaves_of, width_of, IsNamed}
@@ -18,7 +17,7 @@ use Rattle.isl_piece.specs.declared.system.System.{System}
 use Rattle.isl_piece.specs.Piece.{PieceView}
 use Rattle.isl_piece.specs.System.{free_columns}
 use Rattle.isl_elim.specs.Elimination.{HoldsAtAny}
-use Rattle.isl_union.specs.KeptValue.{KeptPiece, columns_of}
+use Rattle.isl_union.specs.KeptValue.{columns_of}
 use Rattle.isl_union.specs.Numbers.{IsPieceUpTo}
 use Rattle.isl_union.specs.Piece.{kept_piece, IsPieceOf}
 use Rattle.isl_union.specs.Pieces.{IsOfAny}
@@ -79,18 +78,16 @@ pub same_set : (x y : Form) → set_of x ≡ set_of y → x ≡ y
 same_set x y e = cc
 
 -- ---- pieces that were made
-pub left_made : (g h : Gauge) → IsCharged g h → (params : List Name) (Plain : Type 0) (Q : Valuation → Element → Type 0) (space : SpaceForm)
+pub left_made : (g h : Gauge) → IsCharged g h → (params : List Name) (Q : Valuation → Element → Type 0) (space : SpaceForm)
     (left : List System) (made : List PieceView)
     → ((v : Valuation) (e : Element) → elements_of_all params made v e ↔ IsOfAny params space left v e)
     → ((v : Valuation) (e : Element) → IsOfAny params space left v e ↔ Q v e) → All (IsPieceOf params) made
-    → All (IsPieceUpTo (unsigned_abs (limit_of h))) (map kept_piece made)
-    → (All (λ s. s.definitions ≡ []) left → All (λ p. p.definitions ≡ []) (map kept_piece made))
-    → (Plain → All (λ s. s.definitions ≡ []) left) → ArePiecesOf g params Plain Q made
-left_made g h charged params Plain Q space left made have same sound small plain simple = record {
+    → All (IsPieceUpTo (unsigned_abs (limit_of h))) (map kept_piece made) → ArePiecesOf g params ⊥ Q made
+left_made g h charged params Q space left made have same sound small = record {
   elements = λ v e. through (have v e) (same v e);
   sound = sound;
   within = within_before g h made charged (pieces_within h params made (map kept_piece made) sound refl small);
-  definitions = λ p. All-unmapped (λ (k : KeptPiece). k.definitions ≡ []) kept_piece made (plain (simple p));
+  definitions = λ never. absurd never;
 }
 
 -- ---- two sets

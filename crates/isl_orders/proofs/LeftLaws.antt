@@ -3,8 +3,8 @@ use Rattle.std.proofs.Common.{◌≡◌, ◌↔◌, inl, inr, sym, ap, ◌∙◌
 use Rattle.std.proofs.Common.{get_or, length, length-append, take}
 use Rattle.std.specs.List.{All}
 use Rattle.std.proofs.lemmas.List.{take_more}
-use Rattle.std.proofs.lemmas.List.Elements.{All-append, All-cons, All-head, All-nil}
-use Rattle.isl_math.proofs.ListLaws.{All-last, Any-first, Any-left, Any-none, Any-one, Any-parts, Any-right}
+use Rattle.std.proofs.lemmas.List.Elements.{All-append, All-nil}
+use Rattle.isl_math.proofs.ListLaws.{Any-first, Any-left, Any-none, Any-one, Any-parts, Any-right}
 use Rattle.isl_meter.specs.Gauge.{Gauge, IsCharged}
 use Rattle.isl_piece.specs.declared.system.System.{System}
 use Rattle.isl_piece.specs.System.{HoldsSystem, IsSystemWithin, free_columns}
@@ -12,9 +12,6 @@ use Rattle.isl_piece.proofs.FormedLaws.{system_within_kept}
 use Rattle.isl_elim.specs.Elimination.{HoldsAtAny}
 use Rattle.isl_blocks.specs.Left.{HoldsBefore}
 use Rattle.isl_orders.specs.Left.{AreLeftWith}
-
-abbrev IsPlain : System → Type 0
-IsPlain s = s.definitions ≡ []
 
 abbrev IsAt : List ℤ → System → Type 0
 IsAt point s = HoldsSystem s point
@@ -25,11 +22,9 @@ within_earlier g h systems charged within = λ k d l.
 
 pub left_one : (g h : Gauge) (s case both : System) (kept count : ℕ) (left : List System) → IsCharged g h → free_columns s ≡ kept + count
     → ((point : List ℤ) → length point ≡ free_columns s → HoldsSystem both point ↔ (HoldsSystem s point × HoldsSystem case point))
-    → (s.definitions ≡ case.definitions → both.definitions ≡ s.definitions)
     → ((point : List ℤ) → length point ≡ kept → HoldsAtAny left point ↔ HoldsBefore both count point)
-    → All (λ t. free_columns t ≡ kept) left → (both.definitions ≡ [] → All IsPlain left) → All (IsSystemWithin h) left
-    → AreLeftWith g s (case ∷ []) kept count left
-left_one g h s case both kept count left charged columns met plain points free plain_left within = record {
+    → All (λ t. free_columns t ≡ kept) left → All (IsSystemWithin h) left → AreLeftWith g s (case ∷ []) kept count left
+left_one g h s case both kept count left charged columns met points free within = record {
   points = λ point long. (
     (λ any.
         let k = (points point long).0 any in
@@ -49,7 +44,6 @@ left_one g h s case both kept count left charged columns met plain points free p
   );
   free = free;
   within = within_earlier g h left charged within;
-  definitions = λ one two. plain_left (plain (one ∙ sym (All-head IsPlain case [] two)) ∙ one);
 }
 
 pub left_none : (g : Gauge) (s : System) (kept count : ℕ) (left : List System) → left ≡ [] → AreLeftWith g s [] kept count left
@@ -60,7 +54,6 @@ left_none g s kept count left e = rw e (record {
   );
   free = All-nil (λ (t : System). free_columns t ≡ kept);
   within = All-nil (IsSystemWithin g);
-  definitions = λ one two. All-nil IsPlain;
 })
 
 pub left_more : (g h : Gauge) (s : System) (cases : List System) (i : ℕ) (case : System) (kept count : ℕ) (left more pushed : List System)
@@ -83,10 +76,4 @@ left_more g h s cases i case kept count left more pushed low at charged so_far o
           );
       free = All-append (λ (t : System). free_columns t ≡ kept) left more so_far.free one.free;
       within = All-append (IsSystemWithin g) left more so_far.within (within_earlier g h more charged one.within);
-      definitions = λ first second.
-          let parts = All-last IsPlain (take i cases) case second in
-          All-append IsPlain left more (so_far.definitions first parts.0) (one.definitions first (single case parts.1));
     }))
-  where
-    single : (t : System) → IsPlain t → All IsPlain (t ∷ [])
-    single t p = All-cons IsPlain t [] p (All-nil IsPlain)

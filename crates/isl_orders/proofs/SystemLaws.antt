@@ -78,7 +78,6 @@ module _ (n w : ℕ) (order : Order) (own other both : System) (cases left : Lis
         );
     free = are.free;
     within = are.within;
-    definitions = λ p q. are.definitions (together.definitions p q) ordered.definitions;
   }
 
 -- ---- maps
@@ -147,5 +146,4 @@ module _ (columns : Columns) (order : Order) (own other both : System) (cases le
         );
     free = are.free;
     within = are.within;
-    definitions = λ p q. are.definitions (together.definitions p q) ordered.definitions;
   }

@@ -1,5 +1,5 @@
 -- inner: two systems at picked blocks of columns.
-use Rattle.std.specs.Prelude.{◌≡◌, ◌↔◌, ℕ, ℤ, List, []}
+use Rattle.std.specs.Prelude.{◌≡◌, ◌↔◌, ℕ, ℤ, List}
 use Rattle.isl_meter.specs.Gauge.{Gauge}
 use Rattle.isl_piece.specs.declared.system.System.{System}
 use Rattle.isl_piece.specs.System.{HoldsSystem, IsSystemWithin, free_columns}
@@ -12,4 +12,3 @@ pub record IsBoth (g : Gauge) (widths : List ℕ) (own : System) (picks : List �
         → HoldsSystem made (numbers_of blocks) ↔ (HoldsSystem own (picked picks blocks) × HoldsSystem other (picked others blocks))
     pub within : IsSystemWithin g made
     pub free : free_columns made ≡ total widths
-    pub definitions : own.definitions ≡ [] → other.definitions ≡ [] → made.definitions ≡ []

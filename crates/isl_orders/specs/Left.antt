@@ -1,5 +1,5 @@
 -- inner: what is left of a system with one of several others, without its last columns.
-use Rattle.std.specs.Prelude.{◌≡◌, ◌↔◌, ◌++◌, ℕ, ℤ, List, [], All, length}
+use Rattle.std.specs.Prelude.{◌≡◌, ◌↔◌, ◌++◌, ℕ, ℤ, List, All, length}
 use Rattle.isl_meter.specs.Gauge.{Gauge}
 use Rattle.isl_piece.specs.declared.system.System.{System}
 use Rattle.isl_piece.specs.System.{HoldsSystem, IsSystemWithin, free_columns}
@@ -14,4 +14,3 @@ pub record AreLeftWith (g : Gauge) (system : System) (cases : List System) (kept
   pub points : (point : List ℤ) → length point ≡ kept → HoldsAtAny left point ↔ HoldWith system cases count point
   pub free : All (λ s. free_columns s ≡ kept) left
   pub within : All (IsSystemWithin g) left
-  pub definitions : system.definitions ≡ [] → All (λ s. s.definitions ≡ []) cases → All (λ s. s.definitions ≡ []) left

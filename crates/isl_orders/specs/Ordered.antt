@@ -1,5 +1,5 @@
 -- inner: systems that hold where two others do, at numbers that are so ordered.
-use Rattle.std.specs.Prelude.{◌≡◌, ◌↔◌, ◌+◌, ◌++◌, ℕ, ℤ, List, [], All, length}
+use Rattle.std.specs.Prelude.{◌≡◌, ◌↔◌, ◌+◌, ◌++◌, ℕ, ℤ, List, All, length}
 use Rattle.isl_meter.specs.Gauge.{Gauge}
 use Rattle.isl_piece.specs.declared.system.System.{System}
 use Rattle.isl_piece.specs.System.{HoldsSystem, IsSystemWithin, free_columns}
@@ -15,7 +15,6 @@ pub record AreOfSets (g : Gauge) (parameters width : ℕ) (order : Order) (own o
       → HoldsAtAny left (v ++ (x ++ y)) ↔ (HoldsSystem own (v ++ x) × HoldsSystem other (v ++ y) × AreOrdered order x y)
   pub free : All (λ s. free_columns s ≡ parameters + (width + width)) left
   pub within : All (IsSystemWithin g) left
-  pub definitions : own.definitions ≡ [] → other.definitions ≡ [] → All (λ s. s.definitions ≡ []) left
 
 -- some p and q, so ordered, make the first hold at parameters, x and p, and the second at parameters, y and q
 abbrev pub HaveImages : ℕ → Order → System → System → List ℤ → List ℤ → List ℤ → Type 0
@@ -29,4 +28,3 @@ pub record AreOfMaps (g : Gauge) (columns : Columns) (order : Order) (own other 
       → HoldsAtAny left (v ++ (x ++ y)) ↔ HaveImages columns.compared order own other v x y
   pub free : All (λ s. free_columns s ≡ columns.parameters + (columns.first + columns.second)) left
   pub within : All (IsSystemWithin g) left
-  pub definitions : own.definitions ≡ [] → other.definitions ≡ [] → All (λ s. s.definitions ≡ []) left

@@ -5,7 +5,7 @@ ghost use Rattle.isl_meter.specs.Gauge.{IsMetered};
 ghost use Rattle.isl_piece.specs.System.{IsSystemWithin};
 ghost use Rattle.isl_union.specs.Numbers.{AreWithinLimit};
 ghost use Rattle.isl_union.specs.Piece.{IsPieceOf};
-ghost use Rattle.isl_images.specs.Made.{elements_of, elements_of_all, ArePiecesOf, IsPlain};
+ghost use Rattle.isl_images.specs.Made.{elements_of, elements_of_all, ArePiecesOf};
 ghost use Rattle.isl_relation.specs.Orders.{OrderedMapsHas, OrderedSetsHas};
 ghost use Rattle.isl_orders.specs.Comparison.{IsOrdered, IsWide, OrderedHas};
 ghost use Rattle.isl_orders.specs.declared.order.Operands.TheVariants.{Sets, Maps};
@@ -32,7 +32,7 @@ fn compared_sets(
     requires own_within { IsSystemWithin meter.old a.now.system }
     requires other_within { IsSystemWithin meter.old b.now.system }
     requires narrow { ¬ IsWide Sets a.now.space b.now.space }
-    ensures made { IfOk result (λ made. ArePiecesOf meter.old params.now (IsPlain a.now × IsPlain b.now)
+    ensures made { IfOk result (λ made. ArePiecesOf meter.old params.now ⊥
         (λ v. OrderedSetsHas (IsOrdered order) (elements_of params.now a.now v) (elements_of params.now b.now v)) made.items) }
     ensures meter { IsMetered meter.old meter.new result }
 {
@@ -68,7 +68,7 @@ fn compared_maps(
     requires own_within { IsSystemWithin meter.old a.now.system }
     requires other_within { IsSystemWithin meter.old b.now.system }
     requires narrow { ¬ IsWide Maps a.now.space b.now.space }
-    ensures made { IfOk result (λ made. ArePiecesOf meter.old params.now (IsPlain a.now × IsPlain b.now)
+    ensures made { IfOk result (λ made. ArePiecesOf meter.old params.now ⊥
         (λ v. OrderedMapsHas (IsOrdered order) (elements_of params.now a.now v) (elements_of params.now b.now v)) made.items) }
     ensures meter { IsMetered meter.old meter.new result }
 {
@@ -103,7 +103,7 @@ fn compared(
     requires own_within { IsSystemWithin meter.old a.now.system }
     requires other_within { IsSystemWithin meter.old b.now.system }
     requires narrow { ¬ IsWide comparison.operands a.now.space b.now.space }
-    ensures made { IfOk result (λ made. ArePiecesOf meter.old params.now (IsPlain a.now × IsPlain b.now)
+    ensures made { IfOk result (λ made. ArePiecesOf meter.old params.now ⊥
         (λ v. OrderedHas comparison.operands comparison.order (elements_of params.now a.now v) (elements_of params.now b.now v))
         made.items) }
     ensures meter { IsMetered meter.old meter.new result }
@@ -129,7 +129,7 @@ fn compared_with(
     requires piece_within { IsSystemWithin meter.old piece.now.system }
     requires others_within { AreWithinLimit meter.old others.now }
     requires narrow { All (λ other. ¬ IsWide comparison.operands piece.now.space other.space) others.now }
-    ensures made { IfOk result (λ made. ArePiecesOf meter.old params.now (IsPlain piece.now × All IsPlain others.now)
+    ensures made { IfOk result (λ made. ArePiecesOf meter.old params.now ⊥
         (λ v. OrderedHas comparison.operands comparison.order (elements_of params.now piece.now v)
         (elements_of_all params.now others.now v))
         made.items) }
@@ -162,7 +162,7 @@ pub(crate) fn all_compared(
     requires pieces_within { AreWithinLimit meter.old pieces.now }
     requires others_within { AreWithinLimit meter.old others.now }
     requires narrow { All (λ piece. All (λ other. ¬ IsWide comparison.operands piece.space other.space) others.now) pieces.now }
-    ensures made { IfOk result (λ made. ArePiecesOf meter.old params.now (All IsPlain pieces.now × All IsPlain others.now)
+    ensures made { IfOk result (λ made. ArePiecesOf meter.old params.now ⊥
         (λ v. OrderedHas comparison.operands comparison.order (elements_of_all params.now pieces.now v)
         (elements_of_all params.now others.now v))
         made.items) }

@@ -1,15 +1,40 @@
 //! A system with one of several others, without its last columns.
 
-ghost use Rattle.std.specs.Prelude.{◌≡◌, ◌+◌, ◌∷◌, [], All, IfOk};
+ghost use Rattle.std.specs.Prelude.{◌≡◌, ◌↔◌, ◌+◌, ◌∷◌, [], ℤ, List, All, IfOk, length};
 ghost use Rattle.isl_meter.specs.Gauge.{IsMetered};
 ghost use Rattle.isl_piece.specs.System.{IsSystemWithin, free_columns};
+ghost use Rattle.isl_elim.specs.Elimination.{HoldsAtAny};
+ghost use Rattle.isl_blocks.specs.Left.{HoldsBefore};
 ghost use Rattle.isl_orders.specs.Left.{AreLeftWith};
 
-use isl_blocks::without_last;
 use isl_difference::append;
+use isl_elim::columns_between;
 use isl_meter::{Cut, Meter};
 use isl_piece::{System, meet};
+use isl_quotient::project;
 use std::alloc::Global;
+
+// What is left of the system over the first `kept` of its free columns, without the last `count`: quotients are kept.
+fn projected(
+    alloc: Global,
+    system: &System,
+    kept: usize,
+    count: usize,
+    meter: &mut Meter,
+) -> Result<Vec<System>, Cut>
+    requires within { IsSystemWithin meter.old system.now }
+    requires columns { free_columns system.now ≡ kept + count }
+    ensures points { (point : List ℤ) → length point ≡ kept
+        → IfOk result (λ systems. HoldsAtAny systems.items point ↔ HoldsBefore system.now count point) }
+    ensures columns { IfOk result (λ systems. All (λ s. free_columns s ≡ kept) systems.items) }
+    ensures within { IfOk result (λ systems. All (IsSystemWithin meter.old) systems.items) }
+    ensures meter { IsMetered meter.old meter.new result }
+{
+    // For what a system keeps: its free columns are so many as a number may be.
+    let _free = system.free();
+    let columns = columns_between(alloc, kept, kept + count)?;
+    project(alloc, system, columns.as_slice(), meter)
+}
 
 // What is left of the system with another one, for a unit.
 #[tactic(auto, using(std::proofs::lemmas::Grind::common_steps, isl_meter::proofs::CutLemmas::charges))]
@@ -30,7 +55,7 @@ fn left_with(
 {
     meter.unit()?;
     let both = meet(alloc, system, case)?;
-    without_last(alloc, &both, kept, count, meter)
+    projected(alloc, &both, kept, count, meter)
 }
 
 /// What is left of the system with one of the others, over the first `kept` of its free columns, without the last `count`. Each of the

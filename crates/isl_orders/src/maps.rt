@@ -6,12 +6,12 @@ ghost use Rattle.isl_space.specs.Names.{joined};
 ghost use Rattle.isl_space.specs.Valuation.{Valuation};
 ghost use Rattle.isl_relation.specs.Together.{IsFormedFrom};
 ghost use Rattle.isl_relation.specs.Wide.{PairsTooWide};
-ghost use Rattle.isl_union.specs.KeptValue.{Has, HasNoDefinitions, IsKeptValue};
+ghost use Rattle.isl_union.specs.KeptValue.{Has, IsKeptValue};
 ghost use Rattle.isl_union.specs.Numbers.{IsWithinLimit};
 ghost use Rattle.isl_relation.specs.Formed.{FormsAccess};
 ghost use Rattle.isl_relation.specs.Orders.{ComesAfter, ComesBefore, IsDownTo, IsUpTo, OrderedMapsHas};
 
-use crate::order::{Comparison, Operands, Order};
+use crate::order::{Operands, Order};
 use crate::values::ordered;
 use isl_meter::Meter;
 use isl_union::{OpFault, Value};
@@ -36,16 +36,11 @@ pub fn less_maps(alloc: Global, a: &Value, b: &Value, meter: &mut Meter) -> Resu
         ↔ OrderedMapsHas ComesBefore (Has a.now valuation) (Has b.now valuation) element) }
 
     // How it is written, and what that cost.
-    ensures definitions { HasNoDefinitions a.now → HasNoDefinitions b.now → IfOk result HasNoDefinitions }
     ensures numbers { IfOk result (IsWithinLimit meter.old) }
     ensures units { IsFormedFrom (joined a.now.params b.now.params) (PairsTooWide FormsAccess a.now b.now) 0
         meter.old meter.new result }
 {
-    let comparison = Comparison {
-        operands: Operands::Maps,
-        order: Order::Less,
-    };
-    ordered(alloc, comparison, a, b, meter)
+    ordered(alloc, Operands::Maps, Order::Less, a, b, meter)
 }
 
 /// The same, where the image of x is not greater. (isl manual, lexicographic order)
@@ -71,16 +66,11 @@ pub fn less_eq_maps(
         ↔ OrderedMapsHas IsUpTo (Has a.now valuation) (Has b.now valuation) element) }
 
     // How it is written, and what that cost.
-    ensures definitions { HasNoDefinitions a.now → HasNoDefinitions b.now → IfOk result HasNoDefinitions }
     ensures numbers { IfOk result (IsWithinLimit meter.old) }
     ensures units { IsFormedFrom (joined a.now.params b.now.params) (PairsTooWide FormsAccess a.now b.now) 0
         meter.old meter.new result }
 {
-    let comparison = Comparison {
-        operands: Operands::Maps,
-        order: Order::UpTo,
-    };
-    ordered(alloc, comparison, a, b, meter)
+    ordered(alloc, Operands::Maps, Order::UpTo, a, b, meter)
 }
 
 /// The same, where the image of x is greater. (isl manual, lexicographic order)
@@ -106,16 +96,11 @@ pub fn greater_maps(
         ↔ OrderedMapsHas ComesAfter (Has a.now valuation) (Has b.now valuation) element) }
 
     // How it is written, and what that cost.
-    ensures definitions { HasNoDefinitions a.now → HasNoDefinitions b.now → IfOk result HasNoDefinitions }
     ensures numbers { IfOk result (IsWithinLimit meter.old) }
     ensures units { IsFormedFrom (joined a.now.params b.now.params) (PairsTooWide FormsAccess a.now b.now) 0
         meter.old meter.new result }
 {
-    let comparison = Comparison {
-        operands: Operands::Maps,
-        order: Order::Greater,
-    };
-    ordered(alloc, comparison, a, b, meter)
+    ordered(alloc, Operands::Maps, Order::Greater, a, b, meter)
 }
 
 /// The same, where the image of x is not less. (isl manual, lexicographic order)
@@ -141,14 +126,9 @@ pub fn greater_eq_maps(
         ↔ OrderedMapsHas IsDownTo (Has a.now valuation) (Has b.now valuation) element) }
 
     // How it is written, and what that cost.
-    ensures definitions { HasNoDefinitions a.now → HasNoDefinitions b.now → IfOk result HasNoDefinitions }
     ensures numbers { IfOk result (IsWithinLimit meter.old) }
     ensures units { IsFormedFrom (joined a.now.params b.now.params) (PairsTooWide FormsAccess a.now b.now) 0
         meter.old meter.new result }
 {
-    let comparison = Comparison {
-        operands: Operands::Maps,
-        order: Order::DownTo,
-    };
-    ordered(alloc, comparison, a, b, meter)
+    ordered(alloc, Operands::Maps, Order::DownTo, a, b, meter)
 }

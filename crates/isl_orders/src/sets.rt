@@ -6,12 +6,12 @@ ghost use Rattle.isl_space.specs.Names.{joined};
 ghost use Rattle.isl_space.specs.Valuation.{Valuation};
 ghost use Rattle.isl_relation.specs.Together.{IsFormedFrom};
 ghost use Rattle.isl_relation.specs.Wide.{PairsTooWide};
-ghost use Rattle.isl_union.specs.KeptValue.{Has, HasNoDefinitions, IsKeptValue};
+ghost use Rattle.isl_union.specs.KeptValue.{Has, IsKeptValue};
 ghost use Rattle.isl_union.specs.Numbers.{IsWithinLimit};
 ghost use Rattle.isl_relation.specs.Formed.{FormsSame};
 ghost use Rattle.isl_relation.specs.Orders.{ComesAfter, ComesBefore, IsDownTo, IsUpTo, OrderedSetsHas};
 
-use crate::order::{Comparison, Operands, Order};
+use crate::order::{Operands, Order};
 use crate::values::ordered;
 use isl_meter::Meter;
 use isl_union::{OpFault, Value};
@@ -36,16 +36,11 @@ pub fn less_sets(alloc: Global, a: &Value, b: &Value, meter: &mut Meter) -> Resu
         ↔ OrderedSetsHas ComesBefore (Has a.now valuation) (Has b.now valuation) element) }
 
     // How it is written, and what that cost.
-    ensures definitions { HasNoDefinitions a.now → HasNoDefinitions b.now → IfOk result HasNoDefinitions }
     ensures numbers { IfOk result (IsWithinLimit meter.old) }
     ensures units { IsFormedFrom (joined a.now.params b.now.params) (PairsTooWide FormsSame a.now b.now) 0
         meter.old meter.new result }
 {
-    let comparison = Comparison {
-        operands: Operands::Sets,
-        order: Order::Less,
-    };
-    ordered(alloc, comparison, a, b, meter)
+    ordered(alloc, Operands::Sets, Order::Less, a, b, meter)
 }
 
 /// From each element of the first set to those of the second of its shape that it is not greater than. (isl manual, lexicographic
@@ -72,16 +67,11 @@ pub fn less_eq_sets(
         ↔ OrderedSetsHas IsUpTo (Has a.now valuation) (Has b.now valuation) element) }
 
     // How it is written, and what that cost.
-    ensures definitions { HasNoDefinitions a.now → HasNoDefinitions b.now → IfOk result HasNoDefinitions }
     ensures numbers { IfOk result (IsWithinLimit meter.old) }
     ensures units { IsFormedFrom (joined a.now.params b.now.params) (PairsTooWide FormsSame a.now b.now) 0
         meter.old meter.new result }
 {
-    let comparison = Comparison {
-        operands: Operands::Sets,
-        order: Order::UpTo,
-    };
-    ordered(alloc, comparison, a, b, meter)
+    ordered(alloc, Operands::Sets, Order::UpTo, a, b, meter)
 }
 
 /// From each element of the first set to those of the second of its shape that it is greater than. (isl manual, lexicographic order)
@@ -107,16 +97,11 @@ pub fn greater_sets(
         ↔ OrderedSetsHas ComesAfter (Has a.now valuation) (Has b.now valuation) element) }
 
     // How it is written, and what that cost.
-    ensures definitions { HasNoDefinitions a.now → HasNoDefinitions b.now → IfOk result HasNoDefinitions }
     ensures numbers { IfOk result (IsWithinLimit meter.old) }
     ensures units { IsFormedFrom (joined a.now.params b.now.params) (PairsTooWide FormsSame a.now b.now) 0
         meter.old meter.new result }
 {
-    let comparison = Comparison {
-        operands: Operands::Sets,
-        order: Order::Greater,
-    };
-    ordered(alloc, comparison, a, b, meter)
+    ordered(alloc, Operands::Sets, Order::Greater, a, b, meter)
 }
 
 /// From each element of the first set to those of the second of its shape that it is not less than. (isl manual, lexicographic order)
@@ -142,14 +127,9 @@ pub fn greater_eq_sets(
         ↔ OrderedSetsHas IsDownTo (Has a.now valuation) (Has b.now valuation) element) }
 
     // How it is written, and what that cost.
-    ensures definitions { HasNoDefinitions a.now → HasNoDefinitions b.now → IfOk result HasNoDefinitions }
     ensures numbers { IfOk result (IsWithinLimit meter.old) }
     ensures units { IsFormedFrom (joined a.now.params b.now.params) (PairsTooWide FormsSame a.now b.now) 0
         meter.old meter.new result }
 {
-    let comparison = Comparison {
-        operands: Operands::Sets,
-        order: Order::DownTo,
-    };
-    ordered(alloc, comparison, a, b, meter)
+    ordered(alloc, Operands::Sets, Order::DownTo, a, b, meter)
 }

@@ -1,4 +1,4 @@
-//! What a comparison makes of two values.
+//! What an order makes of two values.
 
 ghost use Rattle.std.specs.Prelude.{◌≡◌, ◌↔◌, IfOk};
 ghost use Rattle.isl_space.specs.Element.{Element};
@@ -6,18 +6,19 @@ ghost use Rattle.isl_space.specs.Names.{joined};
 ghost use Rattle.isl_space.specs.Valuation.{Valuation};
 ghost use Rattle.isl_relation.specs.Together.{IsFormedFrom};
 ghost use Rattle.isl_relation.specs.Wide.{PairsTooWide};
-ghost use Rattle.isl_union.specs.KeptValue.{Has, HasNoDefinitions, IsKeptValue};
+ghost use Rattle.isl_union.specs.KeptValue.{Has, IsKeptValue};
 ghost use Rattle.isl_union.specs.Numbers.{IsWithinLimit};
 ghost use Rattle.isl_orders.specs.Comparison.{Forms, OrderedHas};
 
 use crate::compare::all_compared;
-use crate::order::Comparison;
+use crate::order::{Comparison, Operands, Order};
 use crate::wide::have_wide;
 use isl_meter::Meter;
 use isl_union::{OpFault, Value, aligned_pair};
 use std::alloc::Global;
 
-/// What the comparison makes of two values, over the joined parameters.
+/// From what the one value has to what the other has of one shape, so ordered, over the joined parameters: elements of sets, or images of
+/// maps.
 ///
 /// # Errors
 ///
@@ -25,7 +26,8 @@ use std::alloc::Global;
 /// formed is too wide, unless memory ends: no unit is used then.
 pub(crate) fn ordered(
     alloc: Global,
-    comparison: Comparison,
+    operands: Operands,
+    order: Order,
     a: &Value,
     b: &Value,
     meter: &mut Meter,
@@ -38,18 +40,18 @@ pub(crate) fn ordered(
     ensures params { IfOk result (λ value. value.params ≡ joined a.now.params b.now.params) }
     ensures elements { (valuation : Valuation) (element : Element)
         → IfOk result (λ value. Has value valuation element
-        ↔ OrderedHas comparison.operands comparison.order (Has a.now valuation) (Has b.now valuation) element) }
+        ↔ OrderedHas operands order (Has a.now valuation) (Has b.now valuation) element) }
 
     // How it is written, and what that cost.
-    ensures definitions { HasNoDefinitions a.now → HasNoDefinitions b.now → IfOk result HasNoDefinitions }
     ensures numbers { IfOk result (IsWithinLimit meter.old) }
-    ensures units { IsFormedFrom (joined a.now.params b.now.params) (PairsTooWide (Forms comparison.operands) a.now b.now) 0
+    ensures units { IsFormedFrom (joined a.now.params b.now.params) (PairsTooWide (Forms operands) a.now b.now) 0
         meter.old meter.new result }
 {
     let pair = aligned_pair(alloc, a, b, meter)?;
-    if have_wide(comparison.operands, a.pieces(), b.pieces())? {
+    if have_wide(operands, a.pieces(), b.pieces())? {
         return Err(OpFault::TooWide);
     }
+    let comparison = Comparison { operands, order };
     let made = all_compared(
         alloc,
         &pair.params,

@@ -5,9 +5,9 @@ use Rattle.isl_token.specs.TokenView.{Token}
 use Rattle.isl_token.specs.Spelling.{Grammar, Spells}
 use Rattle.isl_tree.specs.declared.tree.Literal.{Literal}
 use Rattle.isl_text.specs.Literal.{literal_grammar}
-use Rattle.isl_expr.specs.declared.tree.Stmt.TheVariants.{Show}
-use Rattle.isl_expr.specs.declared.tree.Expr.{Expr}
-use Rattle.isl_expr.specs.declared.tree.Expr.TheVariants as e
+use Rattle.isl_tree.specs.declared.statement.Stmt.TheVariants.{Show}
+use Rattle.isl_tree.specs.declared.statement.Expr.{Expr}
+use Rattle.isl_tree.specs.declared.statement.Expr.TheVariants as e
 use Rattle.isl_stmt.specs.declared.operator.Precedence.{Precedence}
 use Rattle.isl_stmt.specs.declared.operator.Precedence.TheVariants.{Test, Universal, Sum, Product, Join}
 use Rattle.isl_stmt.specs.ExpressionGrammar as g

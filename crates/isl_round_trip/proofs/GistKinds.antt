@@ -10,7 +10,7 @@ use Rattle.isl_union.specs.KeptValue.{KeptPiece, KeptValue, Has, HasElement, IsK
 use Rattle.isl_union.proofs.ValueLaws.{aligned_have}
 use Rattle.isl_gist.specs.Gist.{value_over, AreGistPieces, IsGistOf}
 use Rattle.isl_gist.specs.Gist as gists
-use Rattle.isl_expr.specs.declared.tree.ValueKind.{ValueKind}
+use Rattle.isl_tree.specs.declared.statement.ValueKind.{ValueKind}
 use Rattle.isl_kinds.specs.Typed.{joined_names}
 use Rattle.isl_assumed.specs.declared.assumed.Assumed.{Assumed}
 use Rattle.isl_assumed.specs.Assumed.{Assumes}

@@ -11,12 +11,12 @@ use Rattle.isl_maps.specs.Inverse.{inverse_space, inverse_element}
 use Rattle.isl_relation.specs.Point.{Point, HasPoint, Relates, set_element, map_element, paired}
 use Rattle.isl_relation.specs.Orders.{ComesAfter, ComesBefore, IsDownTo, IsUpTo}
 use Rattle.isl_relation.specs.Flow.{AnyHas}
-use Rattle.isl_expr.specs.declared.tree.ValueKind.{ValueKind}
-use Rattle.isl_expr.specs.declared.tree.ValueKind.TheVariants.{Set, Map, List as Pair, Empty}
-use Rattle.isl_expr.specs.declared.tree.Binary.{Binary}
-use Rattle.isl_expr.specs.declared.tree.Binary.TheVariants as b
-use Rattle.isl_expr.specs.declared.tree.Prefix.{Prefix}
-use Rattle.isl_expr.specs.declared.tree.Prefix.TheVariants as p
+use Rattle.isl_tree.specs.declared.statement.ValueKind.{ValueKind}
+use Rattle.isl_tree.specs.declared.statement.ValueKind.TheVariants.{Set, Map, List as Pair, Empty}
+use Rattle.isl_tree.specs.declared.statement.Binary.{Binary}
+use Rattle.isl_tree.specs.declared.statement.Binary.TheVariants as b
+use Rattle.isl_tree.specs.declared.statement.Prefix.{Prefix}
+use Rattle.isl_tree.specs.declared.statement.Prefix.TheVariants as p
 use Rattle.isl_operators.specs.Operations.{OperatorHas, OrderedHas, WordHas, ApplicationHas}
 use Rattle.isl_state.specs.declared.list.ListPart.{ListPart}
 use Rattle.isl_state.specs.declared.list.ListPart.TheVariants.{First, Second}

@@ -16,8 +16,8 @@ use Rattle.isl_assumed.specs.declared.assumed.Assumed.{Assumed}
 use Rattle.isl_assumed.specs.Assumed.{Assumes}
 use Rattle.isl_assumed.specs.Values.{IsDeadAt}
 use Rattle.isl_values.specs.Live.{IsLiveUnder}
-use Rattle.isl_expr.specs.declared.tree.ValueKind.{ValueKind}
-use Rattle.isl_expr.specs.declared.tree.ValueKind.TheVariants.{Set, Map, List as Pair}
+use Rattle.isl_tree.specs.declared.statement.ValueKind.{ValueKind}
+use Rattle.isl_tree.specs.declared.statement.ValueKind.TheVariants.{Set, Map, List as Pair}
 use Rattle.isl_round_trip.specs.Written.{IsSpaceOf, IsOfKind}
 
 -- what is not without a space of its kind has one

@@ -9,9 +9,9 @@ use Rattle.isl_print.specs.Printed.{printed}
 use Rattle.isl_token.specs.Depth.{is_too_deep}
 use Rattle.isl_tree.specs.declared.tree.Literal.{Literal}
 use Rattle.isl_tree.specs.Literal.{LiteralHas}
-use Rattle.isl_expr.specs.declared.tree.Stmt.{Stmt}
-use Rattle.isl_expr.specs.declared.tree.Stmt.TheVariants.{Assume, Bind, Empty, Show}
-use Rattle.isl_expr.specs.declared.tree.Expr.TheVariants as e
+use Rattle.isl_tree.specs.declared.statement.Stmt.{Stmt}
+use Rattle.isl_tree.specs.declared.statement.Stmt.TheVariants.{Assume, Bind, Empty, Show}
+use Rattle.isl_tree.specs.declared.statement.Expr.TheVariants as e
 use Rattle.isl_state.specs.declared.list.ListPart.{ListPart}
 use Rattle.isl_values.specs.Live.{IsLivePartOf}
 use Rattle.isl_values.specs.State.{Kept, StateView, Moment, EachKept, value_at}

@@ -12,8 +12,8 @@ use Rattle.isl_tree.specs.declared.tree.PieceTree.{PieceTree}
 use Rattle.isl_tree.specs.declared.tree.Literal.{Literal}
 use Rattle.isl_tree.specs.Literal.{space_of_piece}
 use Rattle.isl_plain.specs.Rows.{rows_written}
-use Rattle.isl_expr.specs.declared.tree.ValueKind.{ValueKind}
-use Rattle.isl_expr.specs.declared.tree.ValueKind.TheVariants.{Set, Map, List as Pair, Empty, Truth, Listing, Code}
+use Rattle.isl_tree.specs.declared.statement.ValueKind.{ValueKind}
+use Rattle.isl_tree.specs.declared.statement.ValueKind.TheVariants.{Set, Map, List as Pair, Empty, Truth, Listing, Code}
 
 -- the piece's space, and the rows that its entries and comparisons write; it defines no columns
 abbrev pub piece_written : List Name → PieceTree → KeptPiece

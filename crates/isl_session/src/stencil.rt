@@ -7,7 +7,8 @@ ghost use Rattle.isl_session.specs.Run.{outside};
 ghost use Rattle.isl_session.specs.StencilRun.{StencilAnswered};
 ghost use Rattle.isl_stencil.specs.Stencil.{most_sizes, stencil};
 
-use crate::program::{refuse, run_session};
+use crate::refused::refuse;
+use crate::script::run_session;
 use crate::write::write_summary;
 use crate::{Fault, Session, Status};
 use isl_io::{CleanSink, Failed, Sink};

@@ -11,7 +11,7 @@ use Rattle.isl_assumed.specs.declared.assumed.Assumed.{Assumed}
 use Rattle.isl_assumed.specs.Assumed.{names_of, IsPlain, IsSound}
 use Rattle.isl_assumed.proofs.MeterLaws.{sound_kept}
 use Rattle.isl_union.specs.KeptValue.{KeptValue, HasNoDefinitions}
-use Rattle.isl_expr.specs.declared.tree.ValueKind.{ValueKind}
+use Rattle.isl_tree.specs.declared.statement.ValueKind.{ValueKind}
 use Rattle.isl_state.specs.declared.list.ListPart.{ListPart}
 use Rattle.isl_state.specs.declared.list.ListPart.TheVariants.{First, Second}
 use Rattle.isl_state.specs.Live.{IsLivePartOf}

@@ -13,7 +13,7 @@ use Rattle.isl_space.specs.Element.{Element}
 use Rattle.isl_words.specs.Options.{OptionsView}
 use Rattle.isl_union.specs.KeptValue.{KeptValue}
 pub use Rattle.isl_union.specs.Numbers.{HasNumbersUpTo}
-use Rattle.isl_expr.specs.declared.tree.ValueKind.{ValueKind}
+use Rattle.isl_tree.specs.declared.statement.ValueKind.{ValueKind}
 use Rattle.isl_kinds.specs.Typed.{TypeView, ScopeView, is_dollar}
 use Rattle.isl_assumed.specs.declared.assumed.Assumed.{Assumed}
 use Rattle.isl_assumed.specs.declared.assumed.Assumed.TheVariants.{Nothing}

@@ -26,12 +26,12 @@ use Rattle.isl_formula.specs.FormulaGrammar as formulas
 use Rattle.isl_text.specs.LiteralGrammar as literals
 use Rattle.isl_text.specs.Literal.{literal, literal_grammar}
 use Rattle.isl_text.proofs.LiteralLaws.{literal_again}
-use Rattle.isl_expr.specs.declared.tree.Binary.{Binary}
-use Rattle.isl_expr.specs.declared.tree.Prefix.{Prefix}
-use Rattle.isl_expr.specs.declared.tree.Postfix.{Postfix}
-use Rattle.isl_expr.specs.declared.tree.Postfix.TheVariants.{Inverse, Apply, Item}
-use Rattle.isl_expr.specs.declared.tree.Expr.{Expr}
-use Rattle.isl_expr.specs.declared.tree.Expr.TheVariants as e
+use Rattle.isl_tree.specs.declared.statement.Binary.{Binary}
+use Rattle.isl_tree.specs.declared.statement.Prefix.{Prefix}
+use Rattle.isl_tree.specs.declared.statement.Postfix.{Postfix}
+use Rattle.isl_tree.specs.declared.statement.Postfix.TheVariants.{Inverse, Apply, Item}
+use Rattle.isl_tree.specs.declared.statement.Expr.{Expr}
+use Rattle.isl_tree.specs.declared.statement.Expr.TheVariants as e
 use Rattle.isl_stmt.specs.declared.expression.Flow.{Flow}
 use Rattle.isl_stmt.specs.declared.expression.Flow.TheVariants as flow
 use Rattle.isl_stmt.specs.contracts.operator.Precedence.{the_type}
@@ -40,7 +40,7 @@ use Rattle.isl_stmt.specs.declared.operator.Precedence.TheVariants.{Test, Univer
 use Rattle.isl_stmt.specs.declared.word.Role.{Role}
 use Rattle.isl_stmt.specs.declared.word.Role.TheVariants as role
 use Rattle.isl_stmt.specs.Word as words
-use Rattle.isl_expr.specs.Words.{prefix_of}
+use Rattle.isl_tree.specs.Words.{prefix_of}
 use Rattle.isl_stmt.specs.Word.{is_role, head_role, role_of}
 use Rattle.isl_stmt.specs.Operator as ops
 use Rattle.isl_stmt.specs.Operator.{is_precedence, precedence_of, of_precedence, operator_sign, sees_operator}

@@ -15,11 +15,11 @@ use Rattle.isl_token.proofs.Taking.{takes_or_right, takes_peek, takes_number, ta
 use Rattle.isl_tree.specs.declared.tree.Literal.{Literal}
 use Rattle.isl_text.specs.Literal.{literal, literal_grammar}
 use Rattle.isl_text.proofs.LiteralLaws.{literal_taken}
-use Rattle.isl_expr.specs.declared.tree.Binary.{Binary}
-use Rattle.isl_expr.specs.declared.tree.Prefix.{Prefix}
-use Rattle.isl_expr.specs.declared.tree.Postfix.TheVariants.{Inverse, Apply, Item}
-use Rattle.isl_expr.specs.declared.tree.Expr.{Expr}
-use Rattle.isl_expr.specs.declared.tree.Expr.TheVariants as e
+use Rattle.isl_tree.specs.declared.statement.Binary.{Binary}
+use Rattle.isl_tree.specs.declared.statement.Prefix.{Prefix}
+use Rattle.isl_tree.specs.declared.statement.Postfix.TheVariants.{Inverse, Apply, Item}
+use Rattle.isl_tree.specs.declared.statement.Expr.{Expr}
+use Rattle.isl_tree.specs.declared.statement.Expr.TheVariants as e
 use Rattle.isl_stmt.specs.declared.expression.Flow.{Flow}
 use Rattle.isl_stmt.specs.declared.expression.Flow.TheVariants as flow
 use Rattle.isl_stmt.specs.declared.operator.Precedence.{Precedence}

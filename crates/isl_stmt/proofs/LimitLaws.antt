@@ -2,7 +2,7 @@
 use Rattle.std.proofs.Common.{◌≡◌, ◌∙◌, Bool, true, false, not, ◌&&◌, ◌||◌, List, [], ◌∷◌, refl, ap}
 use Rattle.std.specs.List.{list_all, list_any}
 use Rattle.isl_text.specs.Limits.{is_within}
-use Rattle.isl_expr.specs.declared.tree.Expr.{Expr}
+use Rattle.isl_tree.specs.declared.statement.Expr.{Expr}
 use Rattle.isl_kinds.specs.Parts.{Part, parts_of}
 use Rattle.isl_kinds.specs.Parts as part
 use Rattle.isl_flat_law.proofs.LiteralLaws.{among_is, literals_among}

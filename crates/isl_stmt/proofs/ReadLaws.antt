@@ -16,7 +16,7 @@ use Rattle.isl_refusal.specs.declared.refusal.Refusal.{Refusal}
 use Rattle.isl_refusal.specs.declared.refusal.Refusal.TheVariants.{Syntax, TooDeep, NoMemory}
 use Rattle.isl_token.specs.Fault.{of_fault}
 use Rattle.isl_text.specs.Read as text
-use Rattle.isl_expr.specs.declared.tree.Stmt.{Stmt}
+use Rattle.isl_tree.specs.declared.statement.Stmt.{Stmt}
 use Rattle.isl_stmt.specs.Statement.{statement}
 use Rattle.isl_stmt.specs.StatementGrammar.{statement_grammar}
 use Rattle.isl_stmt.specs.Read.{NoStatement, IsWhole, judged, IsDueTo, IsDue, Answers}

@@ -13,10 +13,10 @@ use Rattle.isl_token.specs.Reading as r
 use Rattle.isl_token.proofs.Taking.{same_read, both_left, both_right, is_kind_true, is_kind_same}
 use Rattle.isl_token.proofs.Again.{Stops, Again, Starts, Full, always, again_map, again_bind, again_after, follows_always, full_bind}
 use Rattle.isl_token.proofs.Again.{starts_bind}
-use Rattle.isl_expr.specs.declared.tree.Expr.{Expr}
-use Rattle.isl_expr.specs.declared.tree.Expr.TheVariants as e
-use Rattle.isl_expr.specs.declared.tree.Stmt.{Stmt}
-use Rattle.isl_expr.specs.declared.tree.Stmt.TheVariants.{Bind, Show, Assume}
+use Rattle.isl_tree.specs.declared.statement.Expr.{Expr}
+use Rattle.isl_tree.specs.declared.statement.Expr.TheVariants as e
+use Rattle.isl_tree.specs.declared.statement.Stmt.{Stmt}
+use Rattle.isl_tree.specs.declared.statement.Stmt.TheVariants.{Bind, Show, Assume}
 use Rattle.isl_text.specs.Pset.{pset}
 use Rattle.isl_text.specs.PsetGrammar.{pset_grammar}
 use Rattle.isl_text.proofs.PsetLaws.{pset_again}

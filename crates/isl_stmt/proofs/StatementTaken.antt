@@ -9,8 +9,8 @@ use Rattle.isl_token.specs.Spelling.{Grammar}
 use Rattle.isl_token.specs.Spelling as s
 use Rattle.isl_token.proofs.Taking.{TakesAt, Takes, takes_pure, takes_bind, takes_map, takes_after, takes_or_left, takes_or_right, chosen}
 use Rattle.isl_tree.specs.declared.tree.Literal.{Literal}
-use Rattle.isl_expr.specs.declared.tree.Expr.{Expr}
-use Rattle.isl_expr.specs.declared.tree.Stmt.TheVariants.{Empty, Bind, Show, Assume}
+use Rattle.isl_tree.specs.declared.statement.Expr.{Expr}
+use Rattle.isl_tree.specs.declared.statement.Stmt.TheVariants.{Empty, Bind, Show, Assume}
 use Rattle.isl_text.specs.Pset.{pset}
 use Rattle.isl_text.specs.PsetGrammar.{pset_grammar}
 use Rattle.isl_text.proofs.PsetLaws.{pset_taken}

@@ -5,10 +5,10 @@ use Rattle.isl_token.specs.TokenView as token
 use Rattle.isl_token.specs.Token.{Text}
 use Rattle.isl_token.specs.AnyWord.{any_word}
 use Rattle.isl_token.proofs.Taking.{same_read}
-use Rattle.isl_expr.specs.declared.tree.Prefix.{Prefix}
+use Rattle.isl_tree.specs.declared.statement.Prefix.{Prefix}
 use Rattle.isl_stmt.specs.declared.word.Role.{Role}
 use Rattle.isl_stmt.specs.declared.word.Role.TheVariants as role
-use Rattle.isl_expr.specs.Words.{prefix_of}
+use Rattle.isl_tree.specs.Words.{prefix_of}
 use Rattle.isl_stmt.specs.Word.{head_role, head_prefix, role_of}
 
 pub role_there : (ts us : List Token) (w : Text) (r : Role) → any_word ts ≡ Some (w, us) → r ≡ role_of w → r ≡ head_role ts

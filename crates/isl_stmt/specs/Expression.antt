@@ -6,12 +6,12 @@ use Rattle.isl_token.specs.declared.token.Kind.TheVariants as k
 use Rattle.isl_token.specs.Reading.{Parser, ◌>>=◌, ◌>>◌, pure, none, head_kind, peek, skip, expect, number, row}
 use Rattle.isl_tree.specs.declared.tree.Literal.{Literal}
 use Rattle.isl_text.specs.Literal.{literal}
-use Rattle.isl_expr.specs.declared.tree.Binary.{Binary}
-use Rattle.isl_expr.specs.declared.tree.Link.{Link}
-use Rattle.isl_expr.specs.declared.tree.Postfix.{Postfix}
-use Rattle.isl_expr.specs.declared.tree.Postfix.TheVariants.{Inverse, Apply, Item}
-use Rattle.isl_expr.specs.declared.tree.Expr.{Expr}
-use Rattle.isl_expr.specs.declared.tree.Expr.TheVariants as e
+use Rattle.isl_tree.specs.declared.statement.Binary.{Binary}
+use Rattle.isl_tree.specs.declared.statement.Link.{Link}
+use Rattle.isl_tree.specs.declared.statement.Postfix.{Postfix}
+use Rattle.isl_tree.specs.declared.statement.Postfix.TheVariants.{Inverse, Apply, Item}
+use Rattle.isl_tree.specs.declared.statement.Expr.{Expr}
+use Rattle.isl_tree.specs.declared.statement.Expr.TheVariants as e
 use Rattle.isl_stmt.specs.declared.expression.Flow.{Flow}
 use Rattle.isl_stmt.specs.declared.expression.Flow.TheVariants as flow
 use Rattle.isl_stmt.specs.declared.operator.Precedence.{Precedence}

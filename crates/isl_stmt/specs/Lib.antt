@@ -7,7 +7,7 @@ pub mod StatementGrammar
 pub mod Limits
 pub mod Read
 pub mod Names
-pub use Rattle.isl_expr.specs.Expr
+pub use Rattle.isl_tree.specs.Expr
 pub use Rattle.isl_token.specs.Lex
 pub use Rattle.isl_token.specs.Spelling
 pub use Rattle.isl_token.specs.TokenView

@@ -2,9 +2,9 @@
 use Rattle.std.specs.Prelude.{Bool, false, not}
 use Rattle.std.specs.List.{list_all}
 use Rattle.isl_text.specs.Limits.{is_within}
-use Rattle.isl_expr.specs.declared.tree.Expr.{Expr}
-use Rattle.isl_expr.specs.declared.tree.Stmt.{Stmt}
-use Rattle.isl_expr.specs.Expr.{literals_of, statement_literals}
+use Rattle.isl_tree.specs.declared.statement.Expr.{Expr}
+use Rattle.isl_tree.specs.declared.statement.Stmt.{Stmt}
+use Rattle.isl_tree.specs.Expr.{literals_of, statement_literals}
 use Rattle.isl_kinds.specs.Parts.{Part}
 use Rattle.isl_kinds.specs.Parts as part
 

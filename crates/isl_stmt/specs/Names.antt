@@ -1,7 +1,7 @@
 -- public: the names of a statement. (isl manual, the notation; the iscc chapter of the barvinok manual)
 use Rattle.std.specs.Prelude.{◌≡◌, Bool, false}
-use Rattle.isl_expr.specs.declared.tree.Stmt.{Stmt}
-use Rattle.isl_expr.specs.declared.tree.Stmt.TheVariants.{Empty, Bind, Show, Assume}
+use Rattle.isl_tree.specs.declared.statement.Stmt.{Stmt}
+use Rattle.isl_tree.specs.declared.statement.Stmt.TheVariants.{Empty, Bind, Show, Assume}
 use Rattle.isl_kinds.specs.Typed.{is_dollar}
 use Rattle.isl_flat.specs.Simple.{has_dollar}
 

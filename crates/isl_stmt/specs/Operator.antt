@@ -6,8 +6,8 @@ use Rattle.isl_token.specs.declared.token.Kind.{Kind}
 use Rattle.isl_token.specs.declared.token.Kind.TheVariants as k
 use Rattle.isl_token.specs.Token.{kind_of}
 use Rattle.isl_token.specs.Reading.{Parser, ◌>>◌, pure, none, head_kind, skip}
-use Rattle.isl_expr.specs.declared.tree.Binary.{Binary}
-use Rattle.isl_expr.specs.declared.tree.Binary.TheVariants as b
+use Rattle.isl_tree.specs.declared.statement.Binary.{Binary}
+use Rattle.isl_tree.specs.declared.statement.Binary.TheVariants as b
 use Rattle.isl_stmt.specs.contracts.operator.Precedence.{the_type}
 use Rattle.isl_stmt.specs.declared.operator.Precedence.{Precedence}
 use Rattle.isl_stmt.specs.declared.operator.Precedence.TheVariants.{Test, Universal, Sum, Product, Join}

@@ -3,9 +3,9 @@ use Rattle.std.specs.Prelude.{ℕ}
 use Rattle.isl_token.specs.declared.token.Kind.TheVariants as k
 use Rattle.isl_token.specs.Spelling.{Grammar, ◌>>=◌, ◌>>◌, ◌∪◌, pure, word}
 use Rattle.isl_tree.specs.declared.tree.Literal.{Literal}
-use Rattle.isl_expr.specs.declared.tree.Expr.{Expr}
-use Rattle.isl_expr.specs.declared.tree.Stmt.{Stmt}
-use Rattle.isl_expr.specs.declared.tree.Stmt.TheVariants.{Empty, Bind, Show, Assume}
+use Rattle.isl_tree.specs.declared.statement.Expr.{Expr}
+use Rattle.isl_tree.specs.declared.statement.Stmt.{Stmt}
+use Rattle.isl_tree.specs.declared.statement.Stmt.TheVariants.{Empty, Bind, Show, Assume}
 use Rattle.isl_text.specs.PsetGrammar.{pset_grammar}
 use Rattle.isl_stmt.specs.declared.word.Role.TheVariants as role
 use Rattle.isl_stmt.specs.ExpressionGrammar.{said, variable, expression}

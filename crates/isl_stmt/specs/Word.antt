@@ -6,8 +6,8 @@ use Rattle.isl_token.specs.TokenView as token
 use Rattle.isl_token.specs.Token.{Text}
 use Rattle.isl_token.specs.AnyWord.{any_word}
 use Rattle.isl_token.specs.Reading.{Parser, ◌>>◌, pure, none, tail, skip}
-use Rattle.isl_expr.specs.declared.tree.Prefix.{Prefix}
-use Rattle.isl_expr.specs.Words.{look_up, prefix_of}
+use Rattle.isl_tree.specs.declared.statement.Prefix.{Prefix}
+use Rattle.isl_tree.specs.Words.{look_up, prefix_of}
 use Rattle.isl_stmt.specs.contracts.word.Role.{the_type}
 use Rattle.isl_stmt.specs.declared.word.Role.{Role}
 use Rattle.isl_stmt.specs.declared.word.Role.TheVariants as role

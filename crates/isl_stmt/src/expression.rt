@@ -8,9 +8,9 @@ ghost use Rattle.isl_stmt.specs.Expression as spec;
 
 use crate::operator::{Precedence, operator, sees_operator};
 use crate::word::{Role, expect_word, next_role, prefix, variable};
-use isl_expr::tree::{Expr, Link, Postfix};
 use isl_text::literal::literal;
 use isl_token::{Cursor, Fault, Kind};
+use isl_tree::statement::{Expr, Link, Postfix};
 use sqlite_items::{Boxed, Items};
 use std::alloc::Global;
 

@@ -3,9 +3,9 @@
 ghost use Rattle.std.specs.Prelude.{◌≡◌};
 ghost use Rattle.isl_stmt.specs.Limits as spec;
 
-use isl_expr::tree::{Expr, Stmt};
 use isl_kinds::{Part, PartTest, any_part};
 use isl_text::limits::is_within;
+use isl_tree::statement::{Expr, Stmt};
 
 // Literals that are not within their limits.
 #[derive(Drop)]

@@ -1,7 +1,7 @@
 //! What names a spelled statement has: laws alone.
 
 ghost use Rattle.std.specs.Prelude.{◌≡◌, ℕ, List, Some};
-ghost use Rattle.isl_expr.specs.declared.tree.Stmt.{Stmt};
+ghost use Rattle.isl_tree.specs.declared.statement.Stmt.{Stmt};
 ghost use Rattle.isl_token.specs.Lex.{tokens};
 ghost use Rattle.isl_token.specs.Spelling.{Spells};
 ghost use Rattle.isl_token.specs.TokenView.{Token};

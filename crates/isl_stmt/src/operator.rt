@@ -6,8 +6,8 @@ ghost use Rattle.isl_stmt.specs.Word.{head_role};
 ghost use Rattle.isl_stmt.specs.Operator as spec;
 
 use crate::word::{Role, next_role};
-use isl_expr::tree::Binary;
 use isl_token::{Cursor, Fault, Kind};
+use isl_tree::statement::Binary;
 
 /// How tightly an operator binds, the loosest first.
 #[derive(Clone, Copy, PartialEq, Eq)]

@@ -4,17 +4,17 @@ ghost use Rattle.std.specs.Prelude.{◌≡◌, ◌⊎◌, ◌≤ℤ◌, Result, 
 ghost use Rattle.isl_token.specs.Spelling.{SpellsOne};
 ghost use Rattle.isl_refusal.specs.declared.refusal.Refusal.TheVariants.{NoMemory};
 ghost use Rattle.isl_refusal.specs.declared.refusal.Refusal as refusals;
-ghost use Rattle.isl_expr.specs.declared.tree.Stmt as trees;
+ghost use Rattle.isl_tree.specs.declared.statement.Stmt as trees;
 ghost use Rattle.isl_stmt.specs.StatementGrammar.{statement_grammar};
 ghost use Rattle.isl_stmt.specs.Read as spec;
 
 use crate::limits::statement_is_within;
 use crate::statement::statement;
-use isl_expr::tree::Stmt;
 use isl_refusal::Refusal;
 use isl_text::read::tokens;
 use isl_text::wide::has_wide_number;
 use isl_token::{Cursor, Fault, Tokens, is_too_deep};
+use isl_tree::statement::Stmt;
 use std::alloc::Global;
 
 /// The statement that all the tokens spell, whatever its size.

@@ -8,9 +8,9 @@ ghost use Rattle.isl_stmt.specs.Statement as spec;
 
 use crate::expression::expression;
 use crate::word::{Role, next_role, variable};
-use isl_expr::tree::Stmt;
 use isl_text::pset::pset;
 use isl_token::{Cursor, Fault, Kind};
+use isl_tree::statement::Stmt;
 use std::alloc::Global;
 
 // Whether a name and `:=` come next.

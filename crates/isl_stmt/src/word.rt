@@ -5,10 +5,10 @@ ghost use Rattle.isl_token.specs.AnyWord.{any_word};
 ghost use Rattle.isl_token.specs.Reading.{Reads};
 ghost use Rattle.isl_stmt.specs.Word as spec;
 
-use isl_expr::tree::Prefix;
-use isl_expr::words::{look_up, prefix_of};
 use isl_space::Name;
 use isl_token::{Cursor, Fault};
+use isl_tree::statement::Prefix;
+use isl_tree::words::{look_up, prefix_of};
 use std::alloc::Global;
 
 /// What a token is outside literals, where it is a word.

@@ -3,7 +3,7 @@ use Rattle.std.specs.Prelude.{ℕ, ◌+◌, ◌-◌, Bool, false, nat_lt, List, 
 use Rattle.std.specs.List.{list_any}
 use Rattle.std.specs.Str.{bytes_eq}
 use Rattle.isl_space.specs.Limits.{most_depth}
-use Rattle.isl_expr.specs.Words.{spellings}
+use Rattle.isl_tree.specs.Words.{spellings}
 use Rattle.isl_token.specs.declared.depth.Place.{Place}
 use Rattle.isl_token.specs.TokenView.{Token}
 use Rattle.isl_token.specs.TokenView as token

@@ -8,8 +8,8 @@ ghost use Rattle.isl_token.specs.Reading as reading;
 
 use crate::marks::{Rest, Tokens};
 use crate::token::Kind;
-use isl_expr::words::prefix_of;
 use isl_space::limits::MAX_DEPTH;
+use isl_tree::words::prefix_of;
 
 // The stacking words that stand before no operand of a statement, or before three.
 const OTHERS: [&[u8]; 4] = [b"not", b"exists", b"any", b"last"];

@@ -5,8 +5,11 @@ pub mod Literal
 pub mod Known
 pub mod Plain
 pub mod Divisors
+pub mod Expr
+pub mod Words
 pub use Rattle.isl_math.specs.Divide
 pub use Rattle.isl_space.specs.Element
 pub use Rattle.isl_space.specs.Form
+pub use Rattle.isl_space.specs.Name
 pub use Rattle.isl_space.specs.SpaceForm
 pub use Rattle.isl_space.specs.Valuation

@@ -2,7 +2,7 @@
 use Rattle.std.proofs.Common.{◌↔◌, List, []}
 use Rattle.isl_space.specs.Name.{Name}
 use Rattle.isl_space.specs.SpaceForm.{SpaceForm}
-use Rattle.isl_expr.specs.declared.tree.Prefix.{Prefix as Word}
+use Rattle.isl_tree.specs.declared.statement.Prefix.{Prefix as Word}
 use Rattle.isl_kinds.specs.Typed.{joined_names}
 use Rattle.isl_operators.specs.Formed.{AreIn, FormsWide, PairsWide}
 use Rattle.isl_relation.specs.Formed.{FormsAccess}

@@ -11,8 +11,8 @@ use Rattle.isl_union.specs.KeptValue.{KeptValue, Has, HasNoDefinitions}
 use Rattle.isl_assumed.specs.declared.assumed.Assumed.{Assumed}
 use Rattle.isl_assumed.specs.declared.assumed.Assumed.TheVariants.{Nothing, Where}
 use Rattle.isl_assumed.specs.Assumed.{Assumes}
-use Rattle.isl_expr.specs.declared.tree.Prefix.{Prefix}
-use Rattle.isl_expr.specs.declared.tree.Prefix.TheVariants as p
+use Rattle.isl_tree.specs.declared.statement.Prefix.{Prefix}
+use Rattle.isl_tree.specs.declared.statement.Prefix.TheVariants as p
 use Rattle.isl_operators.specs.Point.{Point, map_element, set_element}
 use Rattle.isl_operators.specs.Extremes.{HasFirst}
 use Rattle.isl_operators.specs.Orders.{ComesAfter, ComesBefore}
@@ -137,9 +137,9 @@ module _ (state : StateView) (operand asked : KeptValue) (live : IsLiveUnder sta
   -- what is live of what the word makes of it
   pub worded_value : (word : Prefix) (limit : ℕ) (part : KeptValue) → IsAsked state word limit operand asked
       → IsValueOf state.assumed (IsLiveOf state.assumed (IsWordOf word asked)) asked.params (WordHas word asked.params (Has asked)) limit
-      (HasNoDefinitions asked) part
+      (HasNoDefinitions asked × (word_works word ≡ false)) part
       → IsValueOf state.assumed (IsWordedOf state word operand) operand.params (WordHas word operand.params (Has operand)) limit
-      (HasNoDefinitions operand) part
+      (HasNoDefinitions operand × (word_works word ≡ false)) part
   worded_value word limit part is made =
       let names = asked_params (looks word) is.of in record {
         written = (asked, is.of, made.written);
@@ -151,7 +151,7 @@ module _ (state : StateView) (operand asked : KeptValue) (live : IsLiveUnder sta
             (subst (λ (ns : List Name). Same (WordHas word asked.params (Has asked) v) (WordHas word ns (Has operand) v)) names
             (same_word word asked.params (Has asked) (Has operand) v (asked_here (looks word) is.of v here)));
         numbers = made.numbers;
-        definitions = λ plain. made.definitions (is.definitions plain);
+        definitions = λ plain. made.definitions (is.definitions plain.0, plain.1);
       }
 
   module _ (word : Prefix) (g m h : Gauge) (is : IsAsked state word (unsigned_abs (limit_of g)) operand asked)
@@ -172,13 +172,13 @@ module _ (state : StateView) (operand asked : KeptValue) (live : IsLiveUnder sta
 
     module _ (k : Gauge) (made : KeptValue) (goes : GoesOn (WordEnds word (Has asked)))
         (second : IsMadeOf (IsWordOf word asked) asked.params (WordHas word asked.params (Has asked)) (unsigned_abs (limit_of m))
-        (HasNoDefinitions asked) made × IsPaid (word_works word) m h) where
+        (HasNoDefinitions asked × (word_works word ≡ false)) made × IsPaid (word_works word) m h) where
       pub worded_answer : {A : Type 0} (of : A → KeptValue) (result : Result A Refusal)
           → MatchResult result (λ a. IsLivePart state.assumed made (of a) × IsCharged h k) (IsWhyUnmade true CutAlone h k)
           → (narrows state.assumed ≡ false → MatchResult result (λ _. k ≡ h) (λ _. ⊥))
           → MatchResult result
           (λ a. IsValueOf state.assumed (IsWordedOf state word operand) operand.params (WordHas word operand.params (Has operand))
-          (unsigned_abs (limit_of g)) (HasNoDefinitions operand) (of a) × IsPaid Works g k)
+          (unsigned_abs (limit_of g)) (HasNoDefinitions operand × (word_works word ≡ false)) (of a) × IsPaid Works g k)
           (IsWhyUnworked Works (WordEnds word There) g k)
       worded_answer of result part free =
           match_map result _ _ _ _ (λ a v. (worded_value word (unsigned_abs (limit_of g)) (of a) is v.0, v.1)) (λ refusal why. inl why)

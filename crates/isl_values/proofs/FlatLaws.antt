@@ -15,8 +15,8 @@ use Rattle.isl_tree.specs.declared.tree.Literal.{Literal}
 use Rattle.isl_tree.specs.Plain.{is_plain}
 use Rattle.isl_lower.specs.Value.{IsLowered}
 use Rattle.isl_lower.proofs.ValueLaws.{lowered_plain}
-use Rattle.isl_expr.specs.declared.tree.Expr as e
-use Rattle.isl_expr.specs.declared.tree.Expr.{Expr}
+use Rattle.isl_tree.specs.declared.statement.Expr as e
+use Rattle.isl_tree.specs.declared.statement.Expr.{Expr}
 use Rattle.isl_kinds.specs.Parts.{parts_of}
 use Rattle.isl_state.specs.declared.list.ListPart.{ListPart}
 use Rattle.isl_assumed.specs.declared.assumed.Assumed.{Assumed}

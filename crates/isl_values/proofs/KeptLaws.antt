@@ -21,8 +21,8 @@ use Rattle.isl_tree.specs.Literal.{LiteralHas}
 use Rattle.isl_tree.specs.Plain.{is_plain}
 use Rattle.isl_tree.specs.Known.{literal_is_known}
 use Rattle.isl_lower.specs.Value.{IsLowered, IsWellFormedLiteral}
-use Rattle.isl_expr.specs.declared.tree.Expr.{Expr}
-use Rattle.isl_expr.specs.declared.tree.Expr as e
+use Rattle.isl_tree.specs.declared.statement.Expr.{Expr}
+use Rattle.isl_tree.specs.declared.statement.Expr as e
 use Rattle.isl_kinds.specs.Parts.{parts_of}
 use Rattle.isl_kinds.specs.Typed.{TypeView, ScopeView, params_of, has_unknown, bound_to}
 use Rattle.isl_state.specs.declared.list.ListPart.{ListPart}

@@ -1,17 +1,18 @@
 -- The operands behind the first, one after another.
 use Rattle.std.proofs.Common.{◌≡◌, ◌∙◌, inl, inr, ◌<◌, ◌+◌, ℕ, Bool, false, List, All, length, get_or, take, sym, ap₂, subst}
 use Rattle.std.specs.Prelude.{unsigned_abs}
+use Rattle.std.proofs.lemmas.Bool.{or_parts}
 use Rattle.isl_meter.specs.Gauge.{Gauge, limit_of}
 use Rattle.isl_space.specs.Name.{Name}
 use Rattle.isl_union.specs.KeptValue.{KeptValue, Has, HasNoDefinitions}
 use Rattle.isl_refusal.specs.declared.refusal.Refusal.{Refusal}
-use Rattle.isl_expr.specs.declared.tree.Link.{Link}
+use Rattle.isl_tree.specs.declared.statement.Link.{Link}
 use Rattle.isl_operators.specs.Operations.{OperatorHas}
 use Rattle.isl_operators.specs.Formed.{OperatorForms}
-use Rattle.isl_operators.specs.Made.{IsOperatorOf}
+use Rattle.isl_operators.specs.Made.{IsOperatorOf, operator_works}
 use Rattle.isl_kinds.specs.Parts.{operator, parts_of, parts_of_links}
 use Rattle.isl_kinds.specs.Typed.{declared_of, declared_of_row, joined_names}
-use Rattle.isl_values.specs.Live.{IsLiveOf}
+use Rattle.isl_values.specs.Live.{IsLiveOf, narrows}
 use Rattle.isl_state.specs.State.{AtAssumed, StateView, scope_of}
 use Rattle.isl_values.specs.Selection.{Selects, RowSelects}
 use Rattle.isl_values.specs.Worked.{IsWorkedRow}
@@ -58,7 +59,7 @@ module _ (state : StateView) (links : List Link) (i : ℕ) (link : Link) (low : 
   IsJoined left right g h value =
       IsValueOf state.assumed (IsLiveOf state.assumed (IsOperatorOf link.operator left right)) (joined_names left.params right.params)
       (λ v x. OperatorHas link.operator (Has left v) (Has right v) x) (unsigned_abs (limit_of g))
-      (HasNoDefinitions left × HasNoDefinitions right) value
+      (HasNoDefinitions left × HasNoDefinitions right × (operator_works link.operator ≡ false)) value
       × IsPaid (uses_units state.assumed (operator link.operator)) g h
 
   abbrev pub JoinEnds : KeptValue → KeptValue → End → Type 0
@@ -124,7 +125,11 @@ module _ (state : StateView) (links : List Link) (i : ℕ) (link : Link) (low : 
               elements = λ v here. row_more state v (Has first v) (Has left v) (Has right v) (Has made v) links i link low is
                   (before.made.elements v here) (behind.0.elements v here) (joins.0.elements v here);
               numbers = joins.0.numbers;
-              definitions = λ plain. joins.0.definitions (before.made.definitions plain, behind.0.definitions (with_operand plain.1).1);
+              definitions = λ plain. joins.0.definitions (
+                before.made.definitions plain,
+                behind.0.definitions (with_operand plain.1).1,
+                (or_parts (operator_works link.operator) (narrows state.assumed) (with_operator plain.1).1).0,
+              );
             });
         paid = paid_after Works Works (uses_units state.assumed (operator link.operator)) g k m with_operator later joins.1;
         goes_on = row_goes_more state first.params (Has first) links i link low is before.goes_on

@@ -5,9 +5,9 @@ use Rattle.isl_meter.specs.Gauge.{Gauge, limit_of}
 use Rattle.isl_space.specs.Name.{Name}
 use Rattle.isl_union.specs.KeptValue.{KeptValue, Has, HasNoDefinitions}
 use Rattle.isl_refusal.specs.declared.refusal.Refusal.{Refusal}
-use Rattle.isl_expr.specs.declared.tree.Link.{Link}
-use Rattle.isl_expr.specs.declared.tree.Postfix.{Postfix}
-use Rattle.isl_expr.specs.declared.tree.Expr.{Expr, Row, Post}
+use Rattle.isl_tree.specs.declared.statement.Link.{Link}
+use Rattle.isl_tree.specs.declared.statement.Postfix.{Postfix}
+use Rattle.isl_tree.specs.declared.statement.Expr.{Expr, Row, Post}
 use Rattle.isl_kinds.specs.Parts.{parts_of, parts_of_links, parts_of_postfixes}
 use Rattle.isl_kinds.specs.Typed.{declared_of, declared_of_row, declared_of_post}
 use Rattle.isl_kinds.proofs.DeclaredLaws.{declared_of-Row, declared_of-Post}

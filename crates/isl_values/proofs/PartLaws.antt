@@ -5,12 +5,12 @@ use Rattle.std.proofs.lemmas.Bool.{or_parts}
 use Rattle.std.proofs.lemmas.List.Elements.{All-nil, All-cons, All-head, All-tail}
 use Rattle.std.proofs.lemmas.List.Folds.{list_any-append}
 use Rattle.isl_lower.specs.Value.{IsWellFormedLiteral}
-use Rattle.isl_expr.specs.declared.tree.Prefix.{Prefix as Word}
-use Rattle.isl_expr.specs.declared.tree.Link.{Link}
-use Rattle.isl_expr.specs.declared.tree.Postfix.{Postfix, Inverse, Apply, Item}
-use Rattle.isl_expr.specs.declared.tree.Expr.{Expr, Row, Prefix, Post}
-use Rattle.isl_expr.specs.Expr.{literals_of, literals_in_postfix, links_literals, postfixes_literals}
-use Rattle.isl_expr.proofs.Literals.{literals_of-Row, literals_of-Prefix, literals_of-Post}
+use Rattle.isl_tree.specs.declared.statement.Prefix.{Prefix as Word}
+use Rattle.isl_tree.specs.declared.statement.Link.{Link}
+use Rattle.isl_tree.specs.declared.statement.Postfix.{Postfix, Inverse, Apply, Item}
+use Rattle.isl_tree.specs.declared.statement.Expr.{Expr, Row, Prefix, Post}
+use Rattle.isl_tree.specs.Expr.{literals_of, literals_in_postfix, links_literals, postfixes_literals}
+use Rattle.isl_tree.proofs.Literals.{literals_of-Row, literals_of-Prefix, literals_of-Post}
 use Rattle.isl_kinds.specs.Parts.{Part, parts_of, parts_of_postfix, parts_of_links, parts_of_postfixes}
 use Rattle.isl_kinds.specs.Parts as part
 use Rattle.isl_kinds.specs.Typed.{ScopeView, is_unknown}

@@ -7,8 +7,8 @@ use Rattle.isl_space.specs.Name.{Name}
 use Rattle.isl_union.specs.KeptValue.{KeptValue, Has, HasNoDefinitions, IsKeptValue}
 use Rattle.isl_refusal.specs.declared.refusal.Refusal.{Refusal}
 use Rattle.isl_maps.specs.Inverse.{inverse_element, inverse_of}
-use Rattle.isl_expr.specs.declared.tree.Expr.{Expr}
-use Rattle.isl_expr.specs.declared.tree.Postfix.{Postfix, Inverse, Apply, Item}
+use Rattle.isl_tree.specs.declared.statement.Expr.{Expr}
+use Rattle.isl_tree.specs.declared.statement.Postfix.{Postfix, Inverse, Apply, Item}
 use Rattle.isl_operators.specs.Operations.{ApplicationHas}
 use Rattle.isl_operators.specs.Formed.{ApplicationForms}
 use Rattle.isl_operators.specs.Made.{IsApplicationOf}
@@ -122,7 +122,7 @@ module _ (state : StateView) (postfix : Postfix) (expr : Expr) (is : postfix ≡
 
     pub application_followed : (value : KeptValue)
         → IsValueOf state.assumed (IsLiveOf state.assumed (IsApplicationOf left one)) (joined_names left.params one.params)
-        (λ v x. ApplicationHas (Has left v) (Has one v) x) (unsigned_abs (limit_of h)) (HasNoDefinitions left × HasNoDefinitions one) value
+        (λ v x. ApplicationHas (Has left v) (Has one v) x) (unsigned_abs (limit_of h)) ⊥ value
         × IsPaid true h k
         → IsFollowed state postfix left g k value
     application_followed value made =

@@ -3,10 +3,10 @@ use Rattle.std.proofs.Common.{◌↔◌, inl, inr, List}
 use Rattle.isl_space.specs.Element.{Element}
 use Rattle.isl_space.specs.Name.{Name}
 use Rattle.isl_space.specs.Valuation.{Valuation}
-use Rattle.isl_expr.specs.declared.tree.Binary.{Binary}
-use Rattle.isl_expr.specs.declared.tree.Binary.TheVariants as b
-use Rattle.isl_expr.specs.declared.tree.Prefix.{Prefix}
-use Rattle.isl_expr.specs.declared.tree.Prefix.TheVariants as p
+use Rattle.isl_tree.specs.declared.statement.Binary.{Binary}
+use Rattle.isl_tree.specs.declared.statement.Binary.TheVariants as b
+use Rattle.isl_tree.specs.declared.statement.Prefix.{Prefix}
+use Rattle.isl_tree.specs.declared.statement.Prefix.TheVariants as p
 use Rattle.isl_operators.specs.Point.{Point, HasPoint, Relates, set_element, map_element, paired}
 use Rattle.isl_operators.specs.Maps.{JoinHas}
 use Rattle.isl_operators.specs.Extremes.{FirstHas, HasFirst, IsFirstImage, IsFirstOf}

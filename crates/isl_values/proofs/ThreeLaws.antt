@@ -8,9 +8,9 @@ use Rattle.isl_space.specs.Name.{Name}
 use Rattle.isl_space.specs.Valuation.{Valuation}
 use Rattle.isl_union.specs.KeptValue.{KeptValue, Has}
 use Rattle.isl_refusal.specs.declared.refusal.Refusal.{Refusal}
-use Rattle.isl_expr.specs.declared.tree.Expr.{Expr, Any, Last}
-use Rattle.isl_expr.specs.Expr.{literals_of}
-use Rattle.isl_expr.proofs.Literals.{literals_of-Any, literals_of-Last}
+use Rattle.isl_tree.specs.declared.statement.Expr.{Expr, Any, Last}
+use Rattle.isl_tree.specs.Expr.{literals_of}
+use Rattle.isl_tree.proofs.Literals.{literals_of-Any, literals_of-Last}
 use Rattle.isl_operators.specs.Flow.{AnyHas}
 use Rattle.isl_operators.specs.Made.{IsDependenceOf, names_of_three}
 use Rattle.isl_space.specs.Names.{AreDistinct, joined}

@@ -5,15 +5,17 @@ use Rattle.isl_meter.specs.Gauge.{Gauge, limit_of}
 use Rattle.isl_space.specs.Name.{Name}
 use Rattle.isl_union.specs.KeptValue.{KeptValue, Has, HasNoDefinitions}
 use Rattle.isl_refusal.specs.declared.refusal.Refusal.{Refusal}
-use Rattle.isl_expr.specs.declared.tree.Prefix.{Prefix as Word}
-use Rattle.isl_expr.specs.declared.tree.Expr.{Expr, Prefix}
+use Rattle.isl_tree.specs.declared.statement.Prefix.{Prefix as Word}
+use Rattle.isl_tree.specs.declared.statement.Expr.{Expr, Prefix}
+use Rattle.isl_operators.specs.Made.{word_works}
 use Rattle.isl_operators.specs.Operations.{WordHas, is_operation_word}
 use Rattle.isl_kinds.specs.Parts.{prefix, parts_of}
 use Rattle.isl_kinds.specs.Typed.{declared_of}
 use Rattle.isl_kinds.proofs.DeclaredLaws.{declared_of-Prefix}
-use Rattle.std.proofs.lemmas.Bool.{not-false}
+use Rattle.std.proofs.lemmas.Bool.{not-false, or_parts}
 use Rattle.isl_state.specs.declared.list.ListPart.{ListPart}
 use Rattle.isl_state.specs.State.{AtAssumed, StateView, scope_of}
+use Rattle.isl_values.specs.Live.{narrows}
 use Rattle.isl_values.specs.Selection.{Selects, SelectsAt}
 use Rattle.isl_values.specs.Worked.{IsWordedOf, IsWorkedAt}
 use Rattle.isl_values.specs.Ends.{End, Ends, FirstEnds, GoesOn, WordEnds}
@@ -71,7 +73,7 @@ module _ (state : StateView) (expr : Expr) (word : Word) (operand : Expr) (is : 
   module _ (g h k : Gauge) (one : KeptValue) (own : IsMade state operand g h one) where
     pub word_made : (part : ListPart) → is_foreign (prefix word) ≡ false → (made : KeptValue)
         → IsValueOf state.assumed (IsWordedOf state word one) one.params (WordHas word one.params (Has one)) (unsigned_abs (limit_of h))
-        (HasNoDefinitions one) made
+        (HasNoDefinitions one × (word_works word ≡ false)) made
         × IsPaid (uses_units state.assumed (prefix word)) h k
         → IsMadeAt state part expr g k made
     word_made part supported made all =
@@ -94,8 +96,9 @@ module _ (state : StateView) (expr : Expr) (word : Word) (operand : Expr) (is : 
                     (turned (SelectsAt state part (Prefix word operand) v) (WordHas word names (Selects state operand) v)
                     (selects_of-Prefix state v part word operand)));
                 numbers = all.0.numbers;
-                definitions = λ none. all.0.definitions
-                    (own.0.definitions (word_quiet (scope_of state) (uses_units state.assumed) word operand none).1);
+                definitions = λ none.
+                    let quiet = word_quiet (scope_of state) (uses_units state.assumed) word operand none in
+                    all.0.definitions (own.0.definitions quiet.1, (or_parts (word_works word) (narrows state.assumed) quiet.0).0);
               })),
           paid_after WordWorks (work state.assumed (parts_of operand)) (uses_units state.assumed (prefix word)) g h k word_none own.1 all.1,
         )

@@ -10,10 +10,10 @@ use Rattle.isl_union.specs.declared.fault.OpFault.TheVariants as op_fault
 use Rattle.isl_refusal.specs.declared.refusal.Refusal.{Refusal}
 use Rattle.isl_refusal.specs.declared.refusal.Refusal.TheVariants.{NoMinimum, TooWide}
 use Rattle.isl_lower.specs.Value.{IsWellFormedLiteral}
-use Rattle.isl_expr.specs.declared.tree.Link.{Link}
-use Rattle.isl_expr.specs.declared.tree.Postfix.{Postfix, Inverse, Apply, Item}
-use Rattle.isl_expr.specs.declared.tree.Expr.{Expr}
-use Rattle.isl_expr.specs.Expr.{literals_of}
+use Rattle.isl_tree.specs.declared.statement.Link.{Link}
+use Rattle.isl_tree.specs.declared.statement.Postfix.{Postfix, Inverse, Apply, Item}
+use Rattle.isl_tree.specs.declared.statement.Expr.{Expr}
+use Rattle.isl_tree.specs.Expr.{literals_of}
 use Rattle.isl_kinds.specs.Parts.{Part, name, literal, operator, prefix, any, last, inverse, application, item, parts_of}
 use Rattle.isl_kinds.specs.Typed.{TypeView, ScopeView, has_unknown, kind_of, declared_of}
 use Rattle.isl_operators.specs.Operations.{is_operation, is_operation_word}

@@ -9,8 +9,8 @@ use Rattle.isl_union.specs.Flat.{IsFlatOf}
 use Rattle.isl_assumed.specs.declared.assumed.Assumed.{Assumed}
 use Rattle.isl_assumed.specs.Assumed.{Assumes}
 use Rattle.isl_flow.specs.declared.sources.Flow.{Flow}
-use Rattle.isl_expr.specs.declared.tree.Prefix.{Prefix}
-use Rattle.isl_expr.specs.declared.tree.Expr.{Expr}
+use Rattle.isl_tree.specs.declared.statement.Prefix.{Prefix}
+use Rattle.isl_tree.specs.declared.statement.Expr.{Expr}
 use Rattle.isl_kinds.specs.Parts.{parts_of}
 use Rattle.isl_kinds.specs.Typed.{declared_of, joined_names}
 use Rattle.isl_operators.specs.Made.{IsDependenceOf}

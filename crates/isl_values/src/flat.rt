@@ -12,11 +12,11 @@ ghost use Rattle.isl_values.specs.Made.{uses_units, IsPaid, IsSoundExpr, IsWhyUn
 ghost use Rattle.isl_values.specs.Three.{AreBothFlat, IsFlatAt, IsLiveFlat, IsMadeFlat};
 
 use crate::values::{list_of, value_of};
-use isl_expr::tree::Expr;
 use isl_meter::Meter;
 use isl_outcome::refusal_of;
 use isl_refusal::Refusal;
 use isl_state::{ListPart, ListValue, State, live_part};
+use isl_tree::statement::Expr;
 use isl_union::Value;
 use std::alloc::Global;
 use std::rc::Rc;

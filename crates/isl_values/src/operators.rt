@@ -14,11 +14,11 @@ ghost use Rattle.isl_values.specs.Ends.{GoesOn, PairEnds};
 ghost use Rattle.isl_values.specs.Made.{is_foreign, uses_units, IsMadeOf, IsValueOf, IsPaid, IsWhyUnworked};
 
 use crate::answers::answered;
-use isl_expr::tree::Binary;
 use isl_meter::Meter;
 use isl_operators::combined;
 use isl_refusal::Refusal;
 use isl_state::{State, live_part};
+use isl_tree::statement::Binary;
 use isl_union::{Value, extended};
 use std::alloc::Global;
 use std::rc::Rc;
@@ -37,7 +37,8 @@ fn operated(
     ensures made { MatchResult result
         (λ value. IsMadeOf (λ made. IsOperatorOf operator left.value right.now made) (joined_names left.value.params right.now.params)
         (λ valuation element. OperatorHas operator (Has left.value valuation) (Has right.now valuation) element)
-        (unsigned_abs (limit_of meter.old)) (HasNoDefinitions left.value × HasNoDefinitions right.now) value.value
+        (unsigned_abs (limit_of meter.old)) (HasNoDefinitions left.value × HasNoDefinitions right.now × (operator_works operator ≡ false))
+        value.value
         × IsPaid (operator_works operator) meter.old meter.new)
         (IsWhyUnworked (operator_works operator)
         (PairEnds (OperatorForms operator) left.value.params right.now.params (Has left.value) (Has right.now)) meter.old meter.new) }
@@ -70,7 +71,8 @@ pub(crate) fn joined(
         (λ value. IsValueOf state.now.assumed (IsLiveOf state.now.assumed (IsOperatorOf operator left.value right.now))
         (joined_names left.value.params right.now.params)
         (λ valuation element. OperatorHas operator (Has left.value valuation) (Has right.now valuation) element)
-        (unsigned_abs (limit_of meter.old)) (HasNoDefinitions left.value × HasNoDefinitions right.now) value.value
+        (unsigned_abs (limit_of meter.old)) (HasNoDefinitions left.value × HasNoDefinitions right.now × (operator_works operator ≡ false))
+        value.value
         × IsPaid (uses_units state.now.assumed (operator_part operator)) meter.old meter.new)
         (IsWhyUnworked (uses_units state.now.assumed (operator_part operator))
         (PairEnds (OperatorForms operator) left.value.params right.now.params (AtAssumed state.now (Has left.value))

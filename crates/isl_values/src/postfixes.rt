@@ -35,7 +35,7 @@ fn images_of(
     ensures made { MatchResult result
         (λ value. IsMadeOf (λ made. IsApplicationOf map.now argument.now made) (joined_names map.now.params argument.now.params)
         (λ valuation element. ApplicationHas (Has map.now valuation) (Has argument.now valuation) element)
-        (unsigned_abs (limit_of meter.old)) (HasNoDefinitions map.now × HasNoDefinitions argument.now) value.value
+        (unsigned_abs (limit_of meter.old)) ⊥ value.value
         × IsPaid true meter.old meter.new)
         (IsWhyUnworked true (PairEnds ApplicationForms map.now.params argument.now.params (Has map.now) (Has argument.now))
         meter.old meter.new) }
@@ -63,7 +63,7 @@ pub(crate) fn applied_to(
         (λ value. IsValueOf state.now.assumed (IsLiveOf state.now.assumed (IsApplicationOf map.now argument.now))
         (joined_names map.now.params argument.now.params)
         (λ valuation element. ApplicationHas (Has map.now valuation) (Has argument.now valuation) element)
-        (unsigned_abs (limit_of meter.old)) (HasNoDefinitions map.now × HasNoDefinitions argument.now) value.value
+        (unsigned_abs (limit_of meter.old)) ⊥ value.value
         × IsPaid true meter.old meter.new)
         (IsWhyUnworked true (PairEnds ApplicationForms map.now.params argument.now.params (AtAssumed state.now (Has map.now))
         (AtAssumed state.now (Has argument.now))) meter.old meter.new) }

@@ -15,12 +15,12 @@ ghost use Rattle.isl_values.specs.Three.{IsAsked};
 
 use crate::answers::word_answered;
 use crate::operands::under_own;
-use isl_expr::tree::Prefix;
-use isl_expr::words::row_of;
 use isl_meter::Meter;
 use isl_operators::transformed;
 use isl_refusal::Refusal;
 use isl_state::{State, live_part};
+use isl_tree::statement::Prefix;
+use isl_tree::words::row_of;
 use isl_union::Value;
 use std::alloc::Global;
 use std::rc::Rc;
@@ -36,7 +36,8 @@ fn changed(
     requires numbers { HasNumbersUpTo (unsigned_abs (limit_of meter.old)) operand.now }
     ensures made { MatchResult result
         (λ value. IsMadeOf (λ made. IsWordOf word operand.now made) operand.now.params
-        (WordHas word operand.now.params (Has operand.now)) (unsigned_abs (limit_of meter.old)) (HasNoDefinitions operand.now) value.value
+        (WordHas word operand.now.params (Has operand.now)) (unsigned_abs (limit_of meter.old))
+        (HasNoDefinitions operand.now × (word_works word ≡ false)) value.value
         × IsPaid (word_works word) meter.old meter.new)
         (IsWhyUnworked (word_works word) (WordEnds word (Has operand.now)) meter.old meter.new) }
     ensures goes_on { IfOk result (λ _. GoesOn (WordEnds word (Has operand.now))) }
@@ -89,8 +90,8 @@ pub(crate) fn worded(
     requires fits { Fits (limit_of meter.old) state.now }
     ensures made { MatchResult result
         (λ value. IsValueOf state.now.assumed (IsWordedOf state.now word operand.value) operand.value.params
-        (WordHas word operand.value.params (Has operand.value)) (unsigned_abs (limit_of meter.old)) (HasNoDefinitions operand.value)
-        value.value
+        (WordHas word operand.value.params (Has operand.value)) (unsigned_abs (limit_of meter.old))
+        (HasNoDefinitions operand.value × (word_works word ≡ false)) value.value
         × IsPaid (uses_units state.now.assumed (prefix_part word)) meter.old meter.new)
         (IsWhyUnworked (uses_units state.now.assumed (prefix_part word)) (WordEnds word (AtAssumed state.now (Has operand.value)))
         meter.old meter.new) }

@@ -22,20 +22,20 @@ with_fewer_rows-requires c =
           inside c.system-item.is).within;
     }
 
-pub eliminate_all-requires-clause-well_formed : goal.eliminate_all-requires-clause-well_formed
-eliminate_all-requires-clause-well_formed c =
+pub project-requires-clause-well_formed : goal.project-requires-clause-well_formed
+project-requires-clause-well_formed c =
     let few : IsReducedSystem c.loop-system.meter c.system-item.result c.in-Some.few = rw c.in-Some.is at c.in_ok-few.ensures.exact in
     few.within
 
-pub eliminate_all-requires-clause-distinct : goal.eliminate_all-requires-clause-distinct
-eliminate_all-requires-clause-distinct c =
+pub project-requires-clause-distinct : goal.project-requires-clause-distinct
+project-requires-clause-distinct c =
     let n = length c.args.outer.now in
     let m = length c.args.inner.now - n in
     let same : c.as_slice-in-loop-system.result.now ≡ range_with_len n m = grind (arith, common_steps) in
     rw same (range_distinct n m)
 
-pub eliminate_all-requires-clause-cols_in : goal.eliminate_all-requires-clause-cols_in
-eliminate_all-requires-clause-cols_in c =
+pub project-requires-clause-cols_in : goal.project-requires-clause-cols_in
+project-requires-clause-cols_in c =
     let n = length c.args.outer.now in
     let m = length c.args.inner.now - n in
     let i = c.loop-system.system-index in
@@ -79,8 +79,8 @@ loop-system-preserved c =
     let inside : i < length systems = grind (arith, common_steps) in
     let same : c.as_slice-in-loop-system.result.now ≡ range_with_len n m = grind (arith, common_steps) in
     let over : IsOver h inner s = over_at h inner systems i s (over_after g h inner systems c.loop-system.invariant.charged c.requires.over) inside c.system-item.is in
-    projected_more g h c.eliminate_all.new.meter outer inner systems i s c.loop-system.found.items more c.append.new.systems.items inside c.system-item.is
+    projected_more g h c.project.new.meter outer inner systems i s c.loop-system.found.items more c.append.new.systems.items inside c.system-item.is
     c.in_ok-append.ensures.items c.loop-system.invariant
-    (projected_one h c.eliminate_all.new.meter outer inner s c.as_slice-in-loop-system.result.now more over same c.requires.columns
+    (projected_one h c.project.new.meter outer inner s c.as_slice-in-loop-system.result.now more over same c.requires.columns
     (projection_reduced h s c.in-Some.few c.as_slice-in-loop-system.result.now more reduced c.in_ok-more.ensures.projection)
     c.in_ok-more.ensures.within c.in_ok-more.ensures.meter c.in_ok-more.ensures.counted)

@@ -5,7 +5,7 @@ use Rattle.isl_eval.proofs.loops.generated.Goals as goal
 
 pub returns-in-Ok : goal.returns-in-Ok
 returns-in-Ok c = (
-  (c.in-Ok.ensures.tree.1, c.in-Ok.ensures.tree.0),
+  (c.in-Ok.ensures.tree.1, c.in-Ok.ensures.program, c.in-Ok.ensures.tree.0),
   paid_works c.args.meter.now c.codegen.new.meter c.in-Ok.ensures.tree.2,
   schedule_goes c.args.value.now c.in-Ok.ensures.schedule,
 )

@@ -1,8 +1,8 @@
 use Rattle.std.proofs.Common.{◌∙◌, refl, sym}
 use Rattle.isl_values.specs.State.{scope_of}
-use Rattle.isl_expr.specs.declared.tree.Stmt.TheVariants.{Show}
+use Rattle.isl_tree.specs.declared.statement.Stmt.TheVariants.{Show}
 use Rattle.isl_eval.specs.Ended.{StatementEnds}
-use Rattle.isl_expr.specs.declared.tree.Prefix.TheVariants as p
+use Rattle.isl_tree.specs.declared.statement.Prefix.TheVariants as p
 use Rattle.isl_eval.specs.Evaluation.{EndsGeneration, EndsListing, EndsTest}
 use Rattle.isl_eval.proofs.AskedLaws.{codegen_word}
 use Rattle.isl_eval.proofs.CodedLaws.{codegen_ends, codegen_shows}

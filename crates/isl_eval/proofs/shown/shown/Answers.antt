@@ -1,5 +1,5 @@
 use Rattle.std.proofs.Common.{◌∙◌, refl, sym}
-use Rattle.isl_expr.specs.declared.tree.Stmt.TheVariants.{Show}
+use Rattle.isl_tree.specs.declared.statement.Stmt.TheVariants.{Show}
 use Rattle.isl_values.specs.State.{scope_of}
 use Rattle.isl_values.specs.Ends.{Ends}
 use Rattle.isl_eval.specs.Ended.{StatementEnds}

@@ -1,6 +1,6 @@
 use Rattle.std.proofs.Common.{◌≡◌, ◌∙◌, List, ap, subst, sym}
 use Rattle.isl_meter.specs.Gauge.{limit_of, Gauge}
-use Rattle.isl_expr.specs.declared.tree.Stmt.{Stmt}
+use Rattle.isl_tree.specs.declared.statement.Stmt.{Stmt}
 use Rattle.isl_values.specs.State.{Fits, Moment}
 use Rattle.isl_eval.specs.Evaluation.{IsTaken}
 use Rattle.isl_eval.proofs.MomentLaws.{moment_of}

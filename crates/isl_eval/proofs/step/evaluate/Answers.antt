@@ -1,6 +1,6 @@
 use Rattle.std.proofs.Common.{◌<◌, ◌∷◌, ◌++◌, List, Option, arith, length, subst, [], rules}
 use Rattle.isl_kinds.specs.Typed.{TypeView}
-use Rattle.isl_expr.specs.declared.tree.Stmt.{Stmt}
+use Rattle.isl_tree.specs.declared.statement.Stmt.{Stmt}
 use Rattle.isl_values.specs.State.{Moment, scope_of}
 use Rattle.isl_eval.specs.Evaluation.{AreEvaluable, AreLeft}
 use Rattle.isl_eval.proofs.MomentLaws.{moment_of}

@@ -1,4 +1,4 @@
-use Rattle.std.proofs.Common.{◌≡◌, ap, sym, ◌∙◌, subst, refl, ◌*◌, [], length}
+use Rattle.std.proofs.Common.{◌≡◌, ap, sym, ◌∙◌, subst, refl, ◌*◌, length}
 use Rattle.std.proofs.lemmas.Result.{IfOk-weaker}
 use Rattle.isl_space.specs.Form.{width_of}
 use Rattle.isl_space.specs.Shape.{form_of}
@@ -7,7 +7,7 @@ use Rattle.isl_space.specs.declared.shape.Shape.{Shape}
 use Rattle.isl_piece.specs.System.{IsSystemWithin}
 use Rattle.isl_relation.specs.Maps.{DeltasHas}
 use Rattle.isl_images.specs.Differences.{IsWithDifferences}
-use Rattle.isl_images.specs.Made.{elements_of, ArePiecesOf, IsPlain}
+use Rattle.isl_images.specs.Made.{elements_of, ArePiecesOf}
 use Rattle.isl_images.specs.Shadow.{IsShadow}
 use Rattle.isl_images.proofs.ImageLaws.{deltas_same}
 use Rattle.isl_images.proofs.MadeLaws.{of_same}
@@ -31,8 +31,8 @@ returns-clause-made c =
     let told = rw (form, width) at c.pieces_without.ensures.made in
     let shadow = IsShadow params (set_of x) moved (record { from = width_of x; count = 2 * width_of x }) in
     IfOk-weaker c.pieces_without.result
-    (λ made. ArePiecesOf g params (moved.definitions ≡ []) shadow made.items)
-    (λ made. ArePiecesOf g params (IsPlain p) (λ v. DeltasHas (elements_of params p v)) made.items)
-    (λ made are. of_same g params (moved.definitions ≡ []) (IsPlain p) shadow (λ v. DeltasHas (elements_of params p v)) made.items
-    with.definitions (λ v e. deltas_same g params p x lies moved with v e) are)
+    (λ made. ArePiecesOf g params ⊥ shadow made.items)
+    (λ made. ArePiecesOf g params ⊥ (λ v. DeltasHas (elements_of params p v)) made.items)
+    (λ made are. of_same g params ⊥ ⊥ shadow (λ v. DeltasHas (elements_of params p v)) made.items
+    (λ never. never) (λ v e. deltas_same g params p x lies moved with v e) are)
     told

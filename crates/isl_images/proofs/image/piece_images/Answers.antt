@@ -5,7 +5,6 @@ use Rattle.isl_piece.specs.System.{IsSystemWithin}
 use Rattle.isl_piece.proofs.FormedLaws.{system_within_kept}
 use Rattle.isl_union.proofs.MeetSteps.{charged_bits, item_has}
 use Rattle.isl_images.specs.Image.{ImageHas}
-use Rattle.isl_images.specs.Made.{IsPlain}
 use Rattle.isl_images.proofs.ImageLaws.{image_additive}
 use Rattle.isl_images.proofs.MadeLaws.{of_all, of_more, of_none}
 use Rattle.isl_images.proofs.image.piece_images.Goals as goal
@@ -21,7 +20,7 @@ piece_image-requires-clause-within c =
 pub loop-piece-init : goal.loop-piece-init
 loop-piece-init c = record {
   made = of_none c.args.meter.now c.args.params.now (λ v. ImageHas c.args.image) (λ v. image_additive c.args.image)
-      (All IsPlain c.args.pieces.now) c.new-made.result.items c.new-made.ensures.items;
+      ⊥ c.new-made.result.items c.new-made.ensures.items;
   charged = IsCharged_refl c.args.meter.now c.args.meter.now refl;
 }
 
@@ -35,8 +34,8 @@ loop-piece-preserved c =
     let so_far = c.loop-piece.invariant in
     let low : i < length pieces = omega arith in
     record {
-      made = of_more g c.args.params.now (λ v. ImageHas image) (λ v. image_additive image) (All IsPlain pieces) pieces i piece low
-          c.piece-item.is (IsPlain piece) (λ all. item_has IsPlain pieces i piece low c.piece-item.is all) c.loop-piece.meter
+      made = of_more g c.args.params.now (λ v. ImageHas image) (λ v. image_additive image) ⊥ pieces i piece low
+          c.piece-item.is ⊥ (λ never. never) c.loop-piece.meter
           so_far.charged c.loop-piece.made.items c.in_ok-piece_image.field-0.items c.append.new.pieces.items c.in_ok-append.ensures
           so_far.made c.in_ok-piece_image.ensures.made;
       charged = IsCharged_trans g c.loop-piece.meter c.piece_image.new.meter so_far.charged c.in_ok-piece_image.ensures.meter;
@@ -49,5 +48,5 @@ returns-clause-made c =
     let image = c.args.image in
     let i = c.loop-piece.piece-index in
     let end : length pieces ≤ i = omega arith in
-    of_all g c.args.params.now (λ v. ImageHas image) (λ v. image_additive image) (All IsPlain pieces) pieces i end c.loop-piece.made.items
+    of_all g c.args.params.now (λ v. ImageHas image) (λ v. image_additive image) ⊥ pieces i end c.loop-piece.made.items
     c.loop-piece.invariant.made

@@ -5,7 +5,7 @@ use Rattle.isl_space.specs.Shape.{form_of}
 use Rattle.isl_space.specs.SpaceForm.{set_of}
 use Rattle.isl_space.specs.declared.shape.Shape.{Shape}
 use Rattle.isl_relation.specs.Maps.{RangeHas}
-use Rattle.isl_images.specs.Made.{elements_of, ArePiecesOf, IsPlain}
+use Rattle.isl_images.specs.Made.{elements_of, ArePiecesOf}
 use Rattle.isl_images.specs.Shadow.{IsShadow}
 use Rattle.isl_images.proofs.ImageLaws.{range_same}
 use Rattle.isl_images.proofs.MadeLaws.{of_same}
@@ -23,8 +23,8 @@ returns-clause-made c =
     let told = rw (form, c.system.ensures, first) at c.pieces_without.ensures.made in
     let shadow = IsShadow params (set_of y) p.system (record { from = 0; count = width_of x }) in
     IfOk-weaker c.pieces_without.result
-    (λ made. ArePiecesOf g params (IsPlain p) shadow made.items)
-    (λ made. ArePiecesOf g params (IsPlain p) (λ v. RangeHas (elements_of params p v)) made.items)
-    (λ made are. of_same g params (IsPlain p) (IsPlain p) shadow (λ v. RangeHas (elements_of params p v)) made.items (λ plain. plain)
+    (λ made. ArePiecesOf g params ⊥ shadow made.items)
+    (λ made. ArePiecesOf g params ⊥ (λ v. RangeHas (elements_of params p v)) made.items)
+    (λ made are. of_same g params ⊥ ⊥ shadow (λ v. RangeHas (elements_of params p v)) made.items (λ never. never)
     (λ v e. range_same params p x y c.requires.space v e) are)
     told

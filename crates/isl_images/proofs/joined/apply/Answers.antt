@@ -7,8 +7,8 @@ use Rattle.isl_relation.specs.Maps.{ApplyHas}
 use Rattle.isl_relation.specs.Together.{is_domain}
 use Rattle.isl_relation.proofs.TogetherLaws.{same_pairs}
 use Rattle.isl_images.specs.declared.pairing.Pairing.TheVariants.{Apply}
-use Rattle.isl_images.specs.Made.{elements_of_all, IsPlain}
-use Rattle.isl_images.proofs.MadeLaws.{value_has, value_kept, value_plain, value_small}
+use Rattle.isl_images.specs.Made.{elements_of_all}
+use Rattle.isl_images.proofs.MadeLaws.{value_has, value_kept, value_small}
 use Rattle.isl_images.proofs.PairingLaws.{pair_same}
 use Rattle.isl_images.proofs.joined.apply.Goals as goal
 
@@ -20,7 +20,7 @@ returns-clause-kept c =
     let pair = c.in_ok-pair.pair in
     let own = c.as_slice-own.result.now in
     let others = c.in_ok-others.others in
-    value_kept c.args.meter.now pair.params (All IsPlain own × All IsPlain others)
+    value_kept c.args.meter.now pair.params ⊥
     (λ v. ApplyHas (elements_of_all pair.params own v) (elements_of_all pair.params others v)) c.in_ok-made.made.items
     c.in_ok-made.ensures.made c.from_normal.result c.from_normal.ensures c.in_ok-pair.ensures.exact.well_formed
 
@@ -32,29 +32,18 @@ returns-clause-elements c v e =
     let others = pair.others.items in
     let made = rw (c.as_slice-own.ensures.value, c.in_ok-others.ensures) at c.in_ok-made.ensures.made in
     through
-    (value_has c.args.meter.now pair.params (All IsPlain own × All IsPlain others)
+    (value_has c.args.meter.now pair.params ⊥
     (λ w. ApplyHas (elements_of_all pair.params own w) (elements_of_all pair.params others w)) c.in_ok-made.made.items made
     c.from_normal.result c.from_normal.ensures v e)
     (pair_same Apply (elements_of_all pair.params own v) (Has c.args.a.now v) (elements_of_all pair.params others v) (Has c.args.b.now v)
     (exact.own.elements v) (exact.others.elements v) e)
-
-pub returns-clause-definitions : goal.returns-clause-definitions
-returns-clause-definitions c first second =
-    let pair = c.in_ok-pair.pair in
-    let exact = c.in_ok-pair.ensures.exact in
-    let own = pair.own.items in
-    let others = pair.others.items in
-    let made = rw (c.as_slice-own.ensures.value, c.in_ok-others.ensures) at c.in_ok-made.ensures.made in
-    value_plain c.args.meter.now pair.params (All IsPlain own × All IsPlain others)
-    (λ w. ApplyHas (elements_of_all pair.params own w) (elements_of_all pair.params others w)) c.in_ok-made.made.items made
-    c.from_normal.result c.from_normal.ensures (exact.own.definitions first, exact.others.definitions second)
 
 pub returns-clause-numbers : goal.returns-clause-numbers
 returns-clause-numbers c =
     let pair = c.in_ok-pair.pair in
     let own = c.as_slice-own.result.now in
     let others = c.in_ok-others.others in
-    value_small c.args.meter.now pair.params (All IsPlain own × All IsPlain others)
+    value_small c.args.meter.now pair.params ⊥
     (λ v. ApplyHas (elements_of_all pair.params own v) (elements_of_all pair.params others v)) c.in_ok-made.made.items
     c.in_ok-made.ensures.made c.from_normal.result c.from_normal.ensures
 

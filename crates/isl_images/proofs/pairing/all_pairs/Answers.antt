@@ -6,7 +6,7 @@ use Rattle.isl_union.proofs.MeetSteps.{charged_bits, item_has, pieces_later}
 use Rattle.isl_union.proofs.UnitLaws.{from_none}
 use Rattle.isl_relation.specs.Together.{spaces_of}
 use Rattle.isl_relation.proofs.TogetherLaws.{piece_pays}
-use Rattle.isl_images.specs.Made.{elements_of_all, IsPlain}
+use Rattle.isl_images.specs.Made.{elements_of_all}
 use Rattle.isl_images.specs.Pairing.{IsNarrowPair, PairHas, are_paired}
 use Rattle.isl_images.proofs.MadeLaws.{of_all, of_more, of_none}
 use Rattle.isl_images.proofs.PairingLaws.{first_additive}
@@ -19,7 +19,7 @@ loop-piece-init c =
     let others = c.args.others.now in
     record {
       made = of_none c.args.meter.now params (λ v M. PairHas pairing M (elements_of_all params others v))
-          (λ v. first_additive pairing (elements_of_all params others v)) (All IsPlain c.args.pieces.now × All IsPlain others)
+          (λ v. first_additive pairing (elements_of_all params others v)) ⊥
           c.new-made.result.items c.new-made.ensures.items;
       used = from_none c.args.meter.now c.args.meter.now refl;
     }
@@ -55,9 +55,9 @@ loop-piece-preserved c =
     let low : i < length pieces = omega arith in
     record {
       made = of_more g params (λ v M. PairHas pairing M (elements_of_all params others v))
-          (λ v. first_additive pairing (elements_of_all params others v)) (All IsPlain pieces × All IsPlain others) pieces i piece low
-          c.piece-item.is (IsPlain piece × All IsPlain others)
-          (λ plain. (item_has IsPlain pieces i piece low c.piece-item.is plain.0, plain.1)) c.loop-piece.meter so_far.used.charged
+          (λ v. first_additive pairing (elements_of_all params others v)) ⊥ pieces i piece low
+          c.piece-item.is ⊥
+          (λ never. never) c.loop-piece.meter so_far.used.charged
           c.loop-piece.made.items c.in_ok-pieces_with.field-0.items c.append.new.pieces.items c.in_ok-append.ensures so_far.made
           c.in_ok-pieces_with.ensures.made;
       used = piece_pays (are_paired pairing) pieces piece i low c.piece-item.is (spaces_of others) g c.loop-piece.meter
@@ -73,5 +73,5 @@ returns-clause-made c =
     let i = c.loop-piece.piece-index in
     let end : length pieces ≤ i = omega arith in
     of_all c.args.meter.now params (λ v M. PairHas pairing M (elements_of_all params others v))
-    (λ v. first_additive pairing (elements_of_all params others v)) (All IsPlain pieces × All IsPlain others) pieces i end
+    (λ v. first_additive pairing (elements_of_all params others v)) ⊥ pieces i end
     c.loop-piece.made.items c.loop-piece.invariant.made

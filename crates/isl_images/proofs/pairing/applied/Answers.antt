@@ -1,4 +1,4 @@
-use Rattle.std.proofs.Common.{◌≡◌, ap, sym, ◌∙◌, subst, refl, [], length}
+use Rattle.std.proofs.Common.{◌≡◌, ap, sym, ◌∙◌, subst, refl, length}
 use Rattle.std.proofs.lemmas.Bool.{false≢true}
 use Rattle.std.proofs.lemmas.Result.{IfOk-weaker, MatchResult-weaker}
 use Rattle.isl_meter.proofs.CutLemmas.{IsCharged-unit, IsCutBy-after}
@@ -13,7 +13,7 @@ use Rattle.isl_union.proofs.MeetSteps.{bits_after_unit}
 use Rattle.isl_relation.specs.Maps.{ApplyHas}
 use Rattle.isl_relation.specs.Together.{is_domain}
 use Rattle.isl_relation.proofs.TogetherLaws.{apart_free, not_domain, unit_pays}
-use Rattle.isl_images.specs.Made.{elements_of, ArePiecesOf, IsPlain}
+use Rattle.isl_images.specs.Made.{elements_of, ArePiecesOf}
 use Rattle.isl_images.specs.Shadow.{IsShadow}
 use Rattle.isl_images.specs.Shift.{IsOfBoth}
 use Rattle.isl_images.proofs.MadeLaws.{of_before, of_same}
@@ -53,12 +53,12 @@ returns-clause-made c =
     let shadow = IsShadow params (set_of y) both (record { from = 0; count = width_of x }) in
     let Applied = λ (v : Valuation). ApplyHas (elements_of params p v) (elements_of params q v) in
     IfOk-weaker c.pieces_without.result
-    (λ made. ArePiecesOf h params (both.definitions ≡ []) shadow made.items)
-    (λ made. ArePiecesOf g params (IsPlain p × IsPlain q) Applied made.items)
-    (λ made are. of_same g params (both.definitions ≡ []) (IsPlain p × IsPlain q) shadow Applied made.items
-    (λ plain. of.definitions plain.1 plain.0)
+    (λ made. ArePiecesOf h params ⊥ shadow made.items)
+    (λ made. ArePiecesOf g params ⊥ Applied made.items)
+    (λ made are. of_same g params ⊥ ⊥ shadow Applied made.items
+    (λ never. never)
     (λ v e. apply_same g params p q x y map_lies set_lies c.requires.map c.requires.set both of v e)
-    (of_before g h params (both.definitions ≡ []) shadow made.items (IsCharged-unit g h c.in_ok-unit.ensures.1) are))
+    (of_before g h params ⊥ shadow made.items (IsCharged-unit g h c.in_ok-unit.ensures.1) are))
     told
 
 pub returns-then-not-same-clause-units : goal.returns-then-not-same-clause-units

@@ -5,7 +5,7 @@ use Rattle.isl_piece.proofs.FormedLaws.{system_within_kept}
 use Rattle.isl_union.proofs.MeetSteps.{charged_bits, item_has}
 use Rattle.isl_union.proofs.UnitLaws.{from_none}
 use Rattle.isl_relation.proofs.TogetherLaws.{partner_pays}
-use Rattle.isl_images.specs.Made.{elements_of, IsPlain}
+use Rattle.isl_images.specs.Made.{elements_of}
 use Rattle.isl_images.specs.Pairing.{IsNarrowPair, PairHas, are_paired}
 use Rattle.isl_images.proofs.MadeLaws.{of_all, of_more, of_none}
 use Rattle.isl_images.proofs.PairingLaws.{second_additive}
@@ -18,7 +18,7 @@ loop-other-init c =
     let piece = c.args.piece.now in
     record {
       made = of_none c.args.meter.now params (λ v. PairHas pairing (elements_of params piece v))
-          (λ v. second_additive pairing (elements_of params piece v)) (IsPlain piece × All IsPlain c.args.others.now)
+          (λ v. second_additive pairing (elements_of params piece v)) ⊥
           c.new-made.result.items c.new-made.ensures.items;
       used = from_none c.args.meter.now c.args.meter.now refl;
     }
@@ -55,9 +55,9 @@ loop-other-preserved c =
     let low : i < length others = omega arith in
     record {
       made = of_more g params (λ v. PairHas pairing (elements_of params piece v))
-          (λ v. second_additive pairing (elements_of params piece v)) (IsPlain piece × All IsPlain others) others i other low
-          c.other-item.is (IsPlain piece × IsPlain other)
-          (λ plain. (plain.0, item_has IsPlain others i other low c.other-item.is plain.1)) c.loop-other.meter so_far.used.charged
+          (λ v. second_additive pairing (elements_of params piece v)) ⊥ others i other low
+          c.other-item.is ⊥
+          (λ never. never) c.loop-other.meter so_far.used.charged
           c.loop-other.made.items c.in_ok-pair_pieces.field-0.items c.append.new.pieces.items c.in_ok-append.ensures so_far.made
           c.in_ok-pair_pieces.ensures.made;
       used = partner_pays (are_paired pairing) others other i low c.other-item.is piece.space g c.loop-other.meter c.pair_pieces.new.meter
@@ -73,5 +73,5 @@ returns-clause-made c =
     let i = c.loop-other.other-index in
     let end : length others ≤ i = omega arith in
     of_all c.args.meter.now params (λ v. PairHas pairing (elements_of params piece v))
-    (λ v. second_additive pairing (elements_of params piece v)) (IsPlain piece × All IsPlain others) others i end
+    (λ v. second_additive pairing (elements_of params piece v)) ⊥ others i end
     c.loop-other.made.items c.loop-other.invariant.made

@@ -9,7 +9,7 @@ use Rattle.isl_piece.specs.System.{IsSystemWithin}
 use Rattle.isl_union.specs.Fault.{IsChargedFrom}
 use Rattle.isl_union.specs.Piece.{IsPieceOf}
 use Rattle.isl_relation.specs.Together.{partners, spaces_of}
-use Rattle.isl_images.specs.Made.{elements_of, elements_of_all, ArePiecesOf, IsPlain}
+use Rattle.isl_images.specs.Made.{elements_of, elements_of_all, ArePiecesOf}
 use Rattle.isl_images.specs.Pairing.{IsNarrowPair, PairHas, are_paired, may_pair}
 use Rattle.isl_images.proofs.MadeLaws.{of_same}
 use Rattle.isl_images.proofs.NearLaws.{partners_near, pair_near}
@@ -42,12 +42,12 @@ returns-clause-made c =
     let others = c.args.others.now in
     let are = c.in_ok-near.ensures ∙ ap (λ (t : SpaceForm). filter (may_pair pairing t) others) c.space.ensures in
     let near = filter (may_pair pairing piece.space) others in
-    let made = subst (λ (l : List PieceView). IfOk c.pieces_among.result (λ made. ArePiecesOf g params (IsPlain piece × All IsPlain l)
+    let made = subst (λ (l : List PieceView). IfOk c.pieces_among.result (λ made. ArePiecesOf g params ⊥
     (λ v. PairHas pairing (elements_of params piece v) (elements_of_all params l v)) made.items)) are c.pieces_among.ensures.made in
-    IfOk-weaker c.pieces_among.result _ _ (λ made is. of_same g params (IsPlain piece × All IsPlain near) (IsPlain piece × All IsPlain others)
+    IfOk-weaker c.pieces_among.result _ _ (λ made is. of_same g params ⊥ ⊥
     (λ v. PairHas pairing (elements_of params piece v) (elements_of_all params near v))
     (λ v. PairHas pairing (elements_of params piece v) (elements_of_all params others v)) made.items
-    (λ plain. (plain.0, All-filter (may_pair pairing piece.space) IsPlain others plain.1))
+    (λ never. never)
     (λ v e. pair_near pairing params piece others v e) is) made
 
 pub returns-clause-units : goal.returns-clause-units

@@ -1,4 +1,4 @@
-use Rattle.std.proofs.Common.{◌≡◌, ◌≢◌, ◌↔◌, ◌∙◌, sym, ap, arith, subst, ◌+◌, ◌-◌, ◌<◌, ℕ, List, [], get_or, map, unsigned_abs}
+use Rattle.std.proofs.Common.{◌≡◌, ◌≢◌, ◌↔◌, ◌∙◌, sym, ap, arith, subst, ◌+◌, ◌-◌, ◌<◌, ℕ, List, get_or, map, unsigned_abs}
 use Rattle.std.specs.Prelude.{AllPairs}
 use Rattle.std.specs.List.{All, range_with_len}
 use Rattle.isl_meter.specs.Gauge.{limit_of}
@@ -17,16 +17,16 @@ use Rattle.isl_images.proofs.ResultLaws.{ok_case, ok_has}
 use Rattle.isl_images.proofs.ShadowLaws.{shadow_columns, shadow_made}
 use Rattle.isl_images.proofs.shadow.pieces_without.Goals as goal
 
-pub eliminate_all-requires-clause-distinct : goal.eliminate_all-requires-clause-distinct
-eliminate_all-requires-clause-distinct c =
+pub project-requires-clause-distinct : goal.project-requires-clause-distinct
+project-requires-clause-distinct c =
     let gap = c.args.gap in
     let first = c.len.result + gap.from in
     let width : first + gap.count - first ≡ gap.count = omega arith in
     subst (λ (cols : List ℕ). AllPairs (λ a b. a ≢ b) cols)
     (sym (c.as_slice.ensures.value ∙ c.in_ok-columns.ensures ∙ ap (range_with_len first) width)) (range_distinct first gap.count)
 
-pub eliminate_all-requires-clause-cols_in : goal.eliminate_all-requires-clause-cols_in
-eliminate_all-requires-clause-cols_in c =
+pub project-requires-clause-cols_in : goal.project-requires-clause-cols_in
+project-requires-clause-cols_in c =
     let gap = c.args.gap in
     let first = c.len.result + gap.from in
     let width : first + gap.count - first ≡ gap.count = omega arith in
@@ -51,8 +51,8 @@ live_pieces_in-requires-clause-columns c =
 
 pub live_pieces_in-requires-clause-within : goal.live_pieces_in-requires-clause-within
 live_pieces_in-requires-clause-within c = λ k d l.
-    system_within_kept c.eliminate_all.new.meter c.args.meter.now (get_or c.in_ok-systems.systems.items k d)
-    (charged_bits c.args.meter.now c.eliminate_all.new.meter c.in_ok-systems.ensures.meter) (c.in_ok-systems.ensures.within k d l)
+    system_within_kept c.project.new.meter c.args.meter.now (get_or c.in_ok-systems.systems.items k d)
+    (charged_bits c.args.meter.now c.project.new.meter c.in_ok-systems.ensures.meter) (c.in_ok-systems.ensures.within k d l)
 
 pub returns-clause-made : goal.returns-clause-made
 returns-clause-made c =
@@ -69,11 +69,9 @@ returns-clause-made c =
     let projection = subst (λ (cols : List ℕ). IsProjectionAlong s cols systems) at c.in_ok-systems.ensures.projection in
     let r = c.live_pieces_in.result in
     let told = c.live_pieces_in.ensures in
-    ok_case r (λ made. ArePiecesOf g params (s.definitions ≡ []) (IsShadow params space s gap) made.items) (λ made is.
-    shadow_made params s space gap c.requires.gap systems projection g c.eliminate_all.new.meter c.in_ok-systems.ensures.meter
-    c.as_slice.result.now made.items
+    ok_case r (λ made. ArePiecesOf g params ⊥ (IsShadow params space s gap) made.items) (λ made is.
+    shadow_made params s space gap c.requires.gap systems projection g c.project.new.meter c.in_ok-systems.ensures.meter
+    made.items
     (λ v e. ok_has r made (λ m. elements_of_all params m.items v e ↔ IsOfAny params space systems v e) is (told.elements v e))
     (ok_has r made (λ m. All (IsPieceOf params) m.items) is told.sound)
-    (ok_has r made (λ m. All (IsPieceUpTo (unsigned_abs (limit_of c.eliminate_all.new.meter))) (map kept_piece m.items)) is told.numbers)
-    (λ none. ok_has r made (λ m. All (λ p. p.definitions ≡ []) (map kept_piece m.items)) is (told.definitions none))
-    c.in_ok-systems.ensures.definitions)
+    (ok_has r made (λ m. All (IsPieceUpTo (unsigned_abs (limit_of c.project.new.meter))) (map kept_piece m.items)) is told.numbers))

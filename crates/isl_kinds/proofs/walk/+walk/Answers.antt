@@ -1,6 +1,6 @@
 use Rattle.std.proofs.Common.{◌∙◌, Bool, ap}
 use Rattle.std.specs.List.{list_any}
-use Rattle.isl_expr.specs.declared.tree.Expr.{Expr}
+use Rattle.isl_tree.specs.declared.statement.Expr.{Expr}
 use Rattle.isl_kinds.specs.Parts.{Part, parts_of}
 use Rattle.isl_kinds.proofs.WalkLaws.{walk-Last, walk-Prefix}
 use Rattle.isl_kinds.proofs.walk.+walk.Goals as goal

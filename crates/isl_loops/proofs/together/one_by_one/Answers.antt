@@ -106,6 +106,7 @@ loop-item-preserved c =
     let made = c.push.new.self in
     let tree = c.in_ok-separate.field-0 in
     let low : i < length items = omega arith in
+    let named = (all_at (IsOver g extent.params extent.times) items i item low c.item-item.is c.requires.items).named in
     let same = charged_bits g h c.loop-item.invariant.2 in (
       lists_one_more place g extent.params extent.times items c.requires.items c.requires.apart c.requires.outer i item low c.item-item.is
           parts made tree c.in_ok-push.ensures.ok c.loop-item.invariant.0 c.in_ok-separate.ensures.lists,
@@ -118,7 +119,7 @@ loop-item-preserved c =
       parts_all (AsksWhatChanges place.variables) parts tree made c.in_ok-push.ensures.ok c.loop-item.invariant.4
           c.in_ok-separate.ensures.changing,
       parts_all (IsPrintable place.variables) parts tree made c.in_ok-push.ensures.ok c.loop-item.invariant.5
-          c.in_ok-separate.ensures.printable,
+          (c.in_ok-separate.ensures.printable named),
     )
 
 pub returns-clause-lists : goal.returns-clause-lists

@@ -296,19 +296,19 @@ returns-clause-changing t c =
     (subst (λ (n : ℕ). AsksWhatChanges n body.tree) (ap (λ (p : Place). p.variables) c.in_ok-inner-2.ensures) below)
 
 pub returns-in-Some-clause-printable : goal.returns-in-Some-clause-printable
-returns-in-Some-clause-printable t c =
+returns-in-Some-clause-printable t c named =
     let inner = c.in_ok-inner.inner in
     let nested = c.in-Some-3.nested in
-    let below : IsPrintable inner.variables nested.tree = rw c.in-Some-3.is at c.in_ok-nested.ensures.printable in
+    let below : IsPrintable inner.variables nested.tree = rw c.in-Some-3.is at (c.in_ok-nested.ensures.printable named) in
     let here : IsPrintable c.args.place.now.variables nested.tree =
     subst (λ (n : ℕ). IsPrintable n nested.tree) (ap (λ (p : Place). p.variables) c.in_ok-inner.ensures) below in
     subst (λ (m : Nested). IsPrintable c.args.place.now.variables m.tree) (sym c.in_ok-behind.ensures) here
 
 pub returns-clause-printable : goal.returns-clause-printable
-returns-clause-printable t c =
+returns-clause-printable t c named =
     let inner = c.in_ok-inner-2.inner in
     let body = c.in-Some-5.body in
-    let below : IsPrintable inner.variables body.tree = rw c.in-Some-5.is at c.in_ok-body.ensures.printable in
+    let below : IsPrintable inner.variables body.tree = rw c.in-Some-5.is at (c.in_ok-body.ensures.printable named) in
     let some : 0 < c.args.left = grind (arith, common_steps) in
     let whole = c.requires.whole in
     let few = c.requires.place.few in

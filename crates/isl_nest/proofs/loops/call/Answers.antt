@@ -43,5 +43,5 @@ pub returns-clause-over : goal.returns-clause-over
 returns-clause-over c = c.loop-i.invariant.over
 
 pub returns-clause-printable : goal.returns-clause-printable
-returns-clause-printable c n =
-    subst (λ (name : Option Name). IfSome name IsLiteralName) (sym c.in_ok-name_of.ensures) c.requires.item.is.named
+returns-clause-printable c named n =
+    subst (λ (name : Option Name). IfSome name IsLiteralName) (sym c.in_ok-name_of.ensures) named

@@ -351,17 +351,17 @@ returns-clause-changing c =
     (subst (λ (v : ℕ). AsksWhatChanges v nested.tree) (ap (λ (p : Place). p.variables) c.in_ok-inner.ensures) asks)
 
 pub returns-in_default-clause-printable : goal.returns-in_default-clause-printable
-returns-in_default-clause-printable c = empty_printable c.args.place.now.variables c.new.result c.new.ensures
+returns-in_default-clause-printable c named = empty_printable c.args.place.now.variables c.new.result c.new.ensures
 
 pub returns-in_default-2-clause-printable : goal.returns-in_default-2-clause-printable
-returns-in_default-2-clause-printable c =
+returns-in_default-2-clause-printable c named =
     empty_printable c.args.place.now.variables c.new-in_default-2.result c.new-in_default-2.ensures
 
 pub returns-clause-printable : goal.returns-clause-printable
-returns-clause-printable c =
+returns-clause-printable c named =
     let n = c.args.place.now.variables in
     let inner = c.in_ok-inner.inner in
     let nested = c.in-Some-2.nested in
-    let below : IsPrintable inner.variables nested.tree = rw c.in-Some-2.is at c.in_ok-nested.ensures.printable in
+    let below : IsPrintable inner.variables nested.tree = rw c.in-Some-2.is at (c.in_ok-nested.ensures.printable named) in
     c.in_ok-under.ensures.printable n
     (subst (λ (v : ℕ). IsPrintable v nested.tree) (ap (λ (p : Place). p.variables) c.in_ok-inner.ensures) below)

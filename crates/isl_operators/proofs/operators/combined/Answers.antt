@@ -1,13 +1,15 @@
-use Rattle.std.proofs.Common.{false}
+use Rattle.std.proofs.Common.{false, sym, ap, ◌∙◌}
+use Rattle.std.proofs.lemmas.Bool.{false≢true}
 use Rattle.isl_space.specs.Element.{Element}
 use Rattle.isl_space.specs.Names.{joined}
 use Rattle.isl_space.specs.Valuation.{Valuation}
 use Rattle.isl_union.specs.KeptValue.{Has}
-use Rattle.isl_expr.specs.declared.tree.Binary.TheVariants as b
+use Rattle.isl_tree.specs.declared.statement.Binary.TheVariants as b
 use Rattle.isl_relation.specs.Formed.{FormsJoin, FormsUniversal}
 use Rattle.isl_relation.specs.Wide.{PairsTooWide}
 use Rattle.isl_operators.specs.Operations.{OperatorHas}
 use Rattle.isl_operators.specs.Formed.{OperatorForms, PairsWide}
+use Rattle.isl_operators.specs.Made.{operator_works}
 use Rattle.isl_operators.proofs.FaultLaws.{charge, formed_units, plain_units, worked_result, worked_units}
 use Rattle.isl_operators.proofs.MadeLaws.{always, formed_narrow, intersection_of, operator_says, over}
 use Rattle.isl_operators.proofs.WideLaws.{pairs_narrow, pairs_wide}
@@ -30,7 +32,7 @@ returns-in-Union c =
       kept = made.kept;
       params = made.params;
       elements = says.1;
-      definitions = made.definitions;
+      definitions = λ free. made.definitions;
       numbers = made.numbers _ c.requires.left c.requires.right;
       narrow = says.2;
       units = says.3;
@@ -57,7 +59,7 @@ returns-in-Intersection c =
       kept = made.kept;
       params = made.params;
       elements = says.1;
-      definitions = made.definitions;
+      definitions = λ free. absurd (false≢true (sym free ∙ ap operator_works c.in-Intersection.is));
       numbers = made.numbers;
       narrow = says.2;
       units = says.3;
@@ -85,7 +87,7 @@ returns-in-Difference c =
       kept = made.kept;
       params = made.params;
       elements = says.1;
-      definitions = made.definitions;
+      definitions = λ free. absurd (false≢true (sym free ∙ ap operator_works c.in-Difference.is));
       numbers = made.numbers;
       narrow = says.2;
       units = says.3;
@@ -113,7 +115,7 @@ returns-in-RangeIntersection c =
       kept = made.kept;
       params = made.params;
       elements = says.1;
-      definitions = made.definitions;
+      definitions = λ free. absurd (false≢true (sym free ∙ ap operator_works c.in-RangeIntersection.is));
       numbers = made.numbers;
       narrow = says.2;
       units = says.3;
@@ -141,7 +143,7 @@ returns-in-RangeDifference c =
       kept = made.kept;
       params = made.params;
       elements = says.1;
-      definitions = made.definitions;
+      definitions = λ free. absurd (false≢true (sym free ∙ ap operator_works c.in-RangeDifference.is));
       numbers = made.numbers;
       narrow = says.2;
       units = says.3;
@@ -169,7 +171,7 @@ returns-in-Cross c =
       kept = made.kept;
       params = made.params;
       elements = says.1;
-      definitions = made.definitions;
+      definitions = λ free. absurd (false≢true (sym free ∙ ap operator_works c.in-Cross.is));
       numbers = made.numbers;
       narrow = says.2;
       units = says.3;
@@ -200,7 +202,7 @@ returns-in-Join c =
       kept = made.kept;
       params = made.params;
       elements = says.1;
-      definitions = made.definitions;
+      definitions = λ free. absurd (false≢true (sym free ∙ ap operator_works c.in-Join.is));
       numbers = made.numbers;
       narrow = says.2;
       units = says.3;
@@ -232,7 +234,7 @@ returns-in-Universal c =
       kept = made.kept;
       params = made.params;
       elements = says.1;
-      definitions = made.definitions;
+      definitions = λ free. absurd (false≢true (sym free ∙ ap operator_works c.in-Universal.is));
       numbers = made.numbers;
       narrow = says.2;
       units = says.3;
@@ -260,7 +262,7 @@ returns-in-LexLess c =
       kept = made.kept;
       params = made.params;
       elements = says.1;
-      definitions = made.definitions;
+      definitions = λ free. absurd (false≢true (sym free ∙ ap operator_works c.in-LexLess.is));
       numbers = made.numbers;
       narrow = says.2;
       units = says.3;
@@ -288,7 +290,7 @@ returns-in-LexLessEqual c =
       kept = made.kept;
       params = made.params;
       elements = says.1;
-      definitions = made.definitions;
+      definitions = λ free. absurd (false≢true (sym free ∙ ap operator_works c.in-LexLessEqual.is));
       numbers = made.numbers;
       narrow = says.2;
       units = says.3;
@@ -316,7 +318,7 @@ returns-in-LexGreater c =
       kept = made.kept;
       params = made.params;
       elements = says.1;
-      definitions = made.definitions;
+      definitions = λ free. absurd (false≢true (sym free ∙ ap operator_works c.in-LexGreater.is));
       numbers = made.numbers;
       narrow = says.2;
       units = says.3;
@@ -344,7 +346,7 @@ returns-in-LexGreaterEqual c =
       kept = made.kept;
       params = made.params;
       elements = says.1;
-      definitions = made.definitions;
+      definitions = λ free. absurd (false≢true (sym free ∙ ap operator_works c.in-LexGreaterEqual.is));
       numbers = made.numbers;
       narrow = says.2;
       units = says.3;

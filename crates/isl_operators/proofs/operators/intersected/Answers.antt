@@ -6,7 +6,7 @@ use Rattle.isl_space.specs.Names.{joined}
 use Rattle.isl_space.proofs.NamesLaws.{joined-self}
 use Rattle.isl_union.specs.KeptValue.{KeptValue, Has}
 use Rattle.isl_union.specs.Numbers.{IsWithinLimit}
-use Rattle.isl_expr.specs.declared.tree.Binary.TheVariants as b
+use Rattle.isl_tree.specs.declared.statement.Binary.TheVariants as b
 use Rattle.isl_operators.specs.Operations.{OperatorHas}
 use Rattle.isl_operators.specs.Made.{HasMaps, HasSets}
 use Rattle.isl_operators.proofs.ElementLaws.{begun_both, meets_alone, never_begins}

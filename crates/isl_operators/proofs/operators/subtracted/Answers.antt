@@ -6,7 +6,7 @@ use Rattle.isl_space.specs.Name.{Name}
 use Rattle.isl_space.specs.Names.{joined}
 use Rattle.isl_union.specs.KeptValue.{KeptValue, Has}
 use Rattle.isl_relation.specs.Maps.{RemoveDomainHas}
-use Rattle.isl_expr.specs.declared.tree.Binary.TheVariants as b
+use Rattle.isl_tree.specs.declared.statement.Binary.TheVariants as b
 use Rattle.isl_operators.specs.Operations.{OperatorHas}
 use Rattle.isl_operators.specs.Made.{HasMaps, HasSets}
 use Rattle.isl_operators.proofs.ElementLaws.{always_pair, left_alone, left_begun, left_without, never_begins}

@@ -154,10 +154,6 @@ returns-clause-elements c = λ v e.
     let maps = c.in_ok-maps.ensures.elements v e in
     IfOk-weaker c.union.result _ _ (λ value both. either_same _ _ _ _ _ sets maps both) (c.union.ensures.elements v e)
 
-pub returns-clause-definitions : goal.returns-clause-definitions
-returns-clause-definitions c = λ left right.
-    c.union.ensures.definitions (c.in_ok-sets.ensures.definitions left right) (c.in_ok-maps.ensures.definitions left right)
-
 pub returns-clause-numbers : goal.returns-clause-numbers
 returns-clause-numbers c =
     c.union.ensures.numbers _

@@ -1,8 +1,10 @@
-use Rattle.std.proofs.Common.{[], false}
+use Rattle.std.proofs.Common.{[], false, sym, ap, ◌∙◌}
+use Rattle.std.proofs.lemmas.Bool.{false≢true}
 use Rattle.isl_union.specs.KeptValue.{Has}
-use Rattle.isl_expr.specs.declared.tree.Prefix.TheVariants as p
+use Rattle.isl_tree.specs.declared.statement.Prefix.TheVariants as p
 use Rattle.isl_relation.specs.Formed.{FormsDomainMap, FormsIdentity, FormsRangeMap}
 use Rattle.isl_operators.specs.Formed.{FormsWide, WordForms}
+use Rattle.isl_operators.specs.Made.{word_works}
 use Rattle.isl_operators.specs.Operations.{WordHas}
 use Rattle.isl_operators.proofs.FaultLaws.{copied_units, cut_units, memory_units, without_names}
 use Rattle.isl_operators.proofs.MadeLaws.{always, over, word_says}
@@ -26,7 +28,7 @@ returns-in-Domain c =
       kept = made.kept;
       params = made.params;
       elements = says.1;
-      definitions = made.definitions;
+      definitions = λ free. absurd (false≢true (sym free ∙ ap word_works c.in-Domain.is));
       numbers = made.numbers;
       narrow = says.2;
       units = says.3;
@@ -49,7 +51,7 @@ returns-in-Range c =
       kept = made.kept;
       params = made.params;
       elements = says.1;
-      definitions = made.definitions;
+      definitions = λ free. absurd (false≢true (sym free ∙ ap word_works c.in-Range.is));
       numbers = made.numbers;
       narrow = says.2;
       units = says.3;
@@ -72,7 +74,7 @@ returns-in-Deltas c =
       kept = made.kept;
       params = made.params;
       elements = says.1;
-      definitions = made.definitions;
+      definitions = λ free. absurd (false≢true (sym free ∙ ap word_works c.in-Deltas.is));
       numbers = made.numbers;
       narrow = says.2;
       units = says.3;
@@ -95,7 +97,7 @@ returns-in-Wrap c =
       kept = made.kept;
       params = made.params;
       elements = says.1;
-      definitions = made.definitions;
+      definitions = λ free. made.definitions;
       numbers = made.numbers;
       narrow = says.2;
       units = says.3;
@@ -118,7 +120,7 @@ returns-in-Unwrap c =
       kept = made.kept;
       params = made.params;
       elements = says.1;
-      definitions = made.definitions;
+      definitions = λ free. made.definitions;
       numbers = made.numbers;
       narrow = says.2;
       units = says.3;
@@ -141,7 +143,7 @@ returns-in-Zip c =
       kept = made.kept;
       params = made.params;
       elements = says.1;
-      definitions = made.definitions;
+      definitions = λ free. made.definitions;
       numbers = made.numbers;
       narrow = says.2;
       units = says.3;
@@ -165,7 +167,7 @@ returns-in-Identity c =
       kept = made.kept;
       params = made.params;
       elements = says.1;
-      definitions = made.definitions;
+      definitions = λ free. made.definitions;
       numbers = made.numbers;
       narrow = says.2;
       units = says.3;
@@ -189,7 +191,7 @@ returns-in-DomainMap c =
       kept = made.kept;
       params = made.params;
       elements = says.1;
-      definitions = made.definitions;
+      definitions = λ free. made.definitions;
       numbers = made.numbers;
       narrow = says.2;
       units = says.3;
@@ -213,7 +215,7 @@ returns-in-RangeMap c =
       kept = made.kept;
       params = made.params;
       elements = says.1;
-      definitions = made.definitions;
+      definitions = λ free. made.definitions;
       numbers = made.numbers;
       narrow = says.2;
       units = says.3;

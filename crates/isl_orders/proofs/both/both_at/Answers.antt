@@ -1,6 +1,4 @@
-use Rattle.std.proofs.Common.{◌≡◌, ◌↔◌, ◌∙◌, ap, sym}
-use Rattle.isl_piece.specs.declared.system.System.{System}
-use Rattle.isl_piece.specs.Meet.{over_same_columns}
+use Rattle.std.proofs.Common.{◌≡◌, ◌↔◌, ◌∙◌, sym}
 use Rattle.isl_piece.specs.System.{HoldsSystem, IsSystemWithin, free_columns}
 use Rattle.isl_blocks.proofs.ResultLaws.{ok_case, ok_has}
 use Rattle.isl_orders.specs.Both.{IsBoth}
@@ -28,5 +26,4 @@ returns c g one two =
     (λ point long. ok_has r made (λ m. HoldsSystem m point ↔ (HoldsSystem first point × HoldsSystem second point)) at
     (told.points g point p.within q.within long))
     (ok_has r made (IsSystemWithin g) at (told.within g p.within q.within))
-    (ok_has r made (λ m. free_columns m ≡ free_columns first) at (told.free g p.within q.within))
-    (λ same. ap (λ (t : System). t.definitions) (ok_has r made (λ m. m ≡ over_same_columns first second) at (told.same same))))
+    (ok_has r made (λ m. free_columns m ≡ free_columns first) at (told.free g p.within q.within)))

@@ -4,7 +4,7 @@ use Rattle.isl_meter.proofs.CutLemmas.{IsCharged_refl, IsCharged_trans}
 use Rattle.isl_piece.specs.System.{IsSystemWithin}
 use Rattle.isl_piece.proofs.FormedLaws.{system_within_kept}
 use Rattle.isl_union.proofs.MeetSteps.{charged_bits, item_has, pieces_later}
-use Rattle.isl_images.specs.Made.{elements_of_all, IsPlain}
+use Rattle.isl_images.specs.Made.{elements_of_all}
 use Rattle.isl_images.proofs.MadeLaws.{of_all, of_more, of_none}
 use Rattle.isl_orders.specs.Comparison.{IsWide, OrderedHas}
 use Rattle.isl_orders.proofs.PairLaws.{first_additive}
@@ -18,7 +18,7 @@ loop-piece-init c =
     let others = c.args.others.now in
     record {
       made = of_none c.args.meter.now params (λ v M. OrderedHas operands order M (elements_of_all params others v))
-          (λ v. first_additive operands order (elements_of_all params others v)) (All IsPlain c.args.pieces.now × All IsPlain others)
+          (λ v. first_additive operands order (elements_of_all params others v)) ⊥
           c.new-made.result.items c.new-made.ensures.items;
       charged = IsCharged_refl c.args.meter.now c.args.meter.now refl;
     }
@@ -53,10 +53,10 @@ loop-piece-preserved c =
     let low = c.loop-piece-test.true in
     record {
       made = of_more g params (λ v M. OrderedHas operands order M (elements_of_all params others v))
-          (λ v. first_additive operands order (elements_of_all params others v)) (All IsPlain pieces × All IsPlain others) pieces i piece
+          (λ v. first_additive operands order (elements_of_all params others v)) ⊥ pieces i piece
           low
-          c.piece-item.is (IsPlain piece × All IsPlain others)
-          (λ plain. (item_has IsPlain pieces i piece low c.piece-item.is plain.0, plain.1)) c.loop-piece.meter so_far.charged
+          c.piece-item.is ⊥
+          (λ never. never) c.loop-piece.meter so_far.charged
           c.loop-piece.made.items c.in_ok-more.more.items c.append.new.pieces.items c.in_ok-append.ensures so_far.made
           c.in_ok-more.ensures.made;
       charged = IsCharged_trans g c.loop-piece.meter c.compared_with.new.meter so_far.charged c.in_ok-more.ensures.meter;
@@ -70,5 +70,5 @@ returns-clause-made c =
     let pieces = c.args.pieces.now in
     let others = c.args.others.now in
     of_all c.args.meter.now params (λ v M. OrderedHas operands order M (elements_of_all params others v))
-    (λ v. first_additive operands order (elements_of_all params others v)) (All IsPlain pieces × All IsPlain others) pieces
+    (λ v. first_additive operands order (elements_of_all params others v)) ⊥ pieces
     c.loop-piece.piece-index c.loop-piece-test.false c.loop-piece.made.items c.loop-piece.invariant.made

@@ -1,4 +1,4 @@
-use Rattle.std.proofs.Common.{◌≡◌, ◌↔◌, ap, sym, ◌∙◌, refl, [], All, get_or, length, map, unsigned_abs}
+use Rattle.std.proofs.Common.{◌≡◌, ◌↔◌, ap, sym, ◌∙◌, refl, All, get_or, length, map, unsigned_abs}
 use Rattle.std.proofs.lemmas.Bool.{false≢true}
 use Rattle.isl_meter.specs.Gauge.{limit_of}
 use Rattle.isl_space.specs.Form.{width_of}
@@ -12,7 +12,7 @@ use Rattle.isl_union.specs.Numbers.{IsPieceUpTo}
 use Rattle.isl_union.specs.Piece.{kept_piece, IsPieceOf}
 use Rattle.isl_union.specs.Pieces.{IsOfAny}
 use Rattle.isl_relation.specs.Orders.{OrderedSetsHas}
-use Rattle.isl_images.specs.Made.{elements_of, elements_of_all, ArePiecesOf, IsPlain}
+use Rattle.isl_images.specs.Made.{elements_of, elements_of_all, ArePiecesOf}
 use Rattle.isl_images.proofs.MadeLaws.{of_nothing}
 use Rattle.isl_blocks.proofs.ResultLaws.{ok_case, ok_has}
 use Rattle.isl_orders.specs.Comparison.{IsOrdered}
@@ -28,7 +28,7 @@ returns-then-not-same-clause-made c =
     let y = form_of c.in-Set-Set.y.value in
     let differ : ¬ (x ≡ y) =
     λ e. false≢true (c.if-not-same.ensures.1 (ap form_of c.deref.ensures ∙ e ∙ ap form_of (sym c.deref-2.ensures))) in
-    of_nothing c.args.meter.now c.args.params.now (IsPlain a × IsPlain b)
+    of_nothing c.args.meter.now c.args.params.now ⊥
     (λ v. OrderedSetsHas (IsOrdered c.args.order) (elements_of c.args.params.now a v) (elements_of c.args.params.now b v))
     c.new-then-not-same.result.items c.new-then-not-same.ensures.items
     (sets_apart c.args.params.now c.args.order a b x y (sym c.space.ensures ∙ ap space_form_of c.in-Set-Set.is-0)
@@ -73,12 +73,10 @@ returns-clause-made c =
     let r = c.live_pieces_in.result in
     let told = c.live_pieces_in.ensures in
     let Q = λ (v : Valuation). OrderedSetsHas (IsOrdered c.args.order) (elements_of params a v) (elements_of params b v) in
-    ok_case r (λ made. ArePiecesOf g params (IsPlain a × IsPlain b) Q made.items) (λ made is.
-    left_made g h c.in_ok-left.ensures.meter params (IsPlain a × IsPlain b) Q (map_of x x) left made.items
+    ok_case r (λ made. ArePiecesOf g params ⊥ Q made.items) (λ made is.
+    left_made g h c.in_ok-left.ensures.meter params Q (map_of x x) left made.items
     (λ v e. ok_has r made (λ m. elements_of_all params m.items v e ↔ IsOfAny params (map_of x x) left v e) is
     (rw (one, two) at (told.elements v e)))
     (λ v e. sets_same c.args.params.now c.args.order a b x a_lies b_lies c.requires.own c.requires.other g left of v e)
     (ok_has r made (λ m. All (IsPieceOf params) m.items) is told.sound)
-    (ok_has r made (λ m. All (IsPieceUpTo (unsigned_abs (limit_of h))) (map kept_piece m.items)) is told.numbers)
-    (λ plain. ok_has r made (λ m. All (λ p. p.definitions ≡ []) (map kept_piece m.items)) is (told.definitions plain))
-    (λ plain. of.definitions plain.0 plain.1))
+    (ok_has r made (λ m. All (IsPieceUpTo (unsigned_abs (limit_of h))) (map kept_piece m.items)) is told.numbers))

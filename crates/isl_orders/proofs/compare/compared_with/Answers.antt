@@ -1,10 +1,9 @@
 use Rattle.std.proofs.Common.{refl}
-use Rattle.std.specs.List.{All}
 use Rattle.isl_meter.proofs.CutLemmas.{IsCharged_refl, IsCharged_trans}
 use Rattle.isl_piece.specs.System.{IsSystemWithin}
 use Rattle.isl_piece.proofs.FormedLaws.{system_within_kept}
 use Rattle.isl_union.proofs.MeetSteps.{charged_bits, item_has}
-use Rattle.isl_images.specs.Made.{elements_of, IsPlain}
+use Rattle.isl_images.specs.Made.{elements_of}
 use Rattle.isl_images.proofs.MadeLaws.{of_all, of_more, of_none}
 use Rattle.isl_orders.specs.Comparison.{IsWide, OrderedHas}
 use Rattle.isl_orders.proofs.PairLaws.{second_additive}
@@ -18,7 +17,7 @@ loop-other-init c =
     let piece = c.args.piece.now in
     record {
       made = of_none c.args.meter.now params (λ v. OrderedHas operands order (elements_of params piece v))
-          (λ v. second_additive operands order (elements_of params piece v)) (IsPlain piece × All IsPlain c.args.others.now)
+          (λ v. second_additive operands order (elements_of params piece v)) ⊥
           c.new-made.result.items c.new-made.ensures.items;
       charged = IsCharged_refl c.args.meter.now c.args.meter.now refl;
     }
@@ -54,9 +53,9 @@ loop-other-preserved c =
     let low = c.loop-other-test.true in
     record {
       made = of_more g params (λ v. OrderedHas operands order (elements_of params piece v))
-          (λ v. second_additive operands order (elements_of params piece v)) (IsPlain piece × All IsPlain others) others i other low
-          c.other-item.is (IsPlain piece × IsPlain other)
-          (λ plain. (plain.0, item_has IsPlain others i other low c.other-item.is plain.1)) c.loop-other.meter so_far.charged
+          (λ v. second_additive operands order (elements_of params piece v)) ⊥ others i other low
+          c.other-item.is ⊥
+          (λ never. never) c.loop-other.meter so_far.charged
           c.loop-other.made.items c.in_ok-more.more.items c.append.new.pieces.items c.in_ok-append.ensures so_far.made
           c.in_ok-more.ensures.made;
       charged = IsCharged_trans g c.loop-other.meter c.compared.new.meter so_far.charged c.in_ok-more.ensures.meter;
@@ -70,5 +69,5 @@ returns-clause-made c =
     let piece = c.args.piece.now in
     let others = c.args.others.now in
     of_all c.args.meter.now params (λ v. OrderedHas operands order (elements_of params piece v))
-    (λ v. second_additive operands order (elements_of params piece v)) (IsPlain piece × All IsPlain others) others c.loop-other.other-index
+    (λ v. second_additive operands order (elements_of params piece v)) ⊥ others c.loop-other.other-index
     c.loop-other-test.false c.loop-other.made.items c.loop-other.invariant.made

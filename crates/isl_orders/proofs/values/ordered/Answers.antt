@@ -1,13 +1,12 @@
 use Rattle.std.proofs.Common.{inl, inr, refl, sym, ◌∙◌}
-use Rattle.std.specs.List.{All}
 use Rattle.std.proofs.lemmas.Bool.{false≢true}
 use Rattle.std.proofs.lemmas.Result.{err_from_is_err_and}
 use Rattle.isl_union.specs.KeptValue.{Has}
 use Rattle.isl_union.proofs.PiecesLaws.{through}
 use Rattle.isl_union.proofs.UnitLaws.{from_charged}
 use Rattle.isl_relation.specs.Wide.{PairsTooWide}
-use Rattle.isl_images.specs.Made.{elements_of_all, IsPlain}
-use Rattle.isl_images.proofs.MadeLaws.{value_has, value_kept, value_plain, value_small}
+use Rattle.isl_images.specs.Made.{elements_of_all}
+use Rattle.isl_images.proofs.MadeLaws.{value_has, value_kept, value_small}
 use Rattle.isl_orders.specs.Comparison.{Forms, OrderedHas}
 use Rattle.isl_orders.proofs.PairLaws.{pair_same}
 use Rattle.isl_orders.proofs.WideLaws.{narrow_pairs, wide_exactly}
@@ -21,7 +20,7 @@ have_wide-requires-clause-others c = λ k d l. (c.pieces-2.ensures.well_formed k
 
 pub all_compared-requires-clause-narrow : goal.all_compared-requires-clause-narrow
 all_compared-requires-clause-narrow c =
-    let operands = c.args.comparison.operands in
+    let operands = c.args.operands in
     let pair = c.in_ok-pair.pair in
     let exact = wide_exactly operands c.args.a.now c.args.b.now c.pieces.result.now c.pieces-2.result.now c.pieces.ensures.content
     c.pieces-2.ensures.content in
@@ -34,65 +33,52 @@ all_compared-requires-clause-narrow c =
 
 pub returns-clause-kept : goal.returns-clause-kept
 returns-clause-kept c =
-    let operands = c.args.comparison.operands in
-    let order = c.args.comparison.order in
+    let operands = c.args.operands in
+    let order = c.args.order in
     let pair = c.in_ok-pair.pair in
     let own = c.as_slice.result.now in
     let others = c.as_slice-2.result.now in
-    value_kept c.args.meter.now pair.params (All IsPlain own × All IsPlain others)
+    value_kept c.args.meter.now pair.params ⊥
     (λ v. OrderedHas operands order (elements_of_all pair.params own v) (elements_of_all pair.params others v)) c.in_ok-made.made.items
     c.in_ok-made.ensures.made c.from_normal.result c.from_normal.ensures c.in_ok-pair.ensures.exact.well_formed
 
 pub returns-clause-elements : goal.returns-clause-elements
 returns-clause-elements c v e =
-    let operands = c.args.comparison.operands in
-    let order = c.args.comparison.order in
+    let operands = c.args.operands in
+    let order = c.args.order in
     let pair = c.in_ok-pair.pair in
     let exact = c.in_ok-pair.ensures.exact in
     let own = pair.own.items in
     let others = pair.others.items in
     let made = rw (c.as_slice.ensures.value, c.as_slice-2.ensures.value) at c.in_ok-made.ensures.made in
     through
-    (value_has c.args.meter.now pair.params (All IsPlain own × All IsPlain others)
+    (value_has c.args.meter.now pair.params ⊥
     (λ w. OrderedHas operands order (elements_of_all pair.params own w) (elements_of_all pair.params others w)) c.in_ok-made.made.items made
     c.from_normal.result c.from_normal.ensures v e)
     (pair_same operands order (elements_of_all pair.params own v) (Has c.args.a.now v) (elements_of_all pair.params others v)
     (Has c.args.b.now v)
     (exact.own.elements v) (exact.others.elements v) e)
 
-pub returns-clause-definitions : goal.returns-clause-definitions
-returns-clause-definitions c first second =
-    let operands = c.args.comparison.operands in
-    let order = c.args.comparison.order in
-    let pair = c.in_ok-pair.pair in
-    let exact = c.in_ok-pair.ensures.exact in
-    let own = pair.own.items in
-    let others = pair.others.items in
-    let made = rw (c.as_slice.ensures.value, c.as_slice-2.ensures.value) at c.in_ok-made.ensures.made in
-    value_plain c.args.meter.now pair.params (All IsPlain own × All IsPlain others)
-    (λ w. OrderedHas operands order (elements_of_all pair.params own w) (elements_of_all pair.params others w)) c.in_ok-made.made.items made
-    c.from_normal.result c.from_normal.ensures (exact.own.definitions first, exact.others.definitions second)
-
 pub returns-clause-numbers : goal.returns-clause-numbers
 returns-clause-numbers c =
-    let operands = c.args.comparison.operands in
-    let order = c.args.comparison.order in
+    let operands = c.args.operands in
+    let order = c.args.order in
     let pair = c.in_ok-pair.pair in
     let own = c.as_slice.result.now in
     let others = c.as_slice-2.result.now in
-    value_small c.args.meter.now pair.params (All IsPlain own × All IsPlain others)
+    value_small c.args.meter.now pair.params ⊥
     (λ v. OrderedHas operands order (elements_of_all pair.params own v) (elements_of_all pair.params others v)) c.in_ok-made.made.items
     c.in_ok-made.ensures.made c.from_normal.result c.from_normal.ensures
 
 pub returns-then-branch-clause-units : goal.returns-then-branch-clause-units
 returns-then-branch-clause-units c =
-    let exact = wide_exactly c.args.comparison.operands c.args.a.now c.args.b.now c.pieces.result.now c.pieces-2.result.now
+    let exact = wide_exactly c.args.operands c.args.a.now c.args.b.now c.pieces.result.now c.pieces-2.result.now
     c.pieces.ensures.content c.pieces-2.ensures.content in
     (inr (c.in_ok-pair.ensures.faults, exact.0 (c.in_ok-have_wide.ensures.0 c.if-branch.true)), refl)
 
 pub returns-in_err-made-clause-units : goal.returns-in_err-made-clause-units
 returns-in_err-made-clause-units c =
-    let operands = c.args.comparison.operands in
+    let operands = c.args.operands in
     let exact = wide_exactly operands c.args.a.now c.args.b.now c.pieces.result.now c.pieces-2.result.now c.pieces.ensures.content
     c.pieces-2.ensures.content in
     let never : ¬ PairsTooWide (Forms operands) c.args.a.now c.args.b.now =
@@ -102,7 +88,7 @@ returns-in_err-made-clause-units c =
 
 pub returns-clause-units : goal.returns-clause-units
 returns-clause-units c =
-    let exact = wide_exactly c.args.comparison.operands c.args.a.now c.args.b.now c.pieces.result.now c.pieces-2.result.now
+    let exact = wide_exactly c.args.operands c.args.a.now c.args.b.now c.pieces.result.now c.pieces-2.result.now
     c.pieces.ensures.content c.pieces-2.ensures.content in (
       c.in_ok-pair.ensures.faults,
       (λ wide. false≢true (sym c.if-branch.false ∙ c.in_ok-have_wide.ensures.1 (exact.1 wide))),

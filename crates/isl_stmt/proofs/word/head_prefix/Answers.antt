@@ -1,6 +1,6 @@
 use Rattle.std.proofs.Common.{◌∙◌, ap, sym}
 use Rattle.isl_token.specs.AnyWord.{any_word}
-use Rattle.isl_expr.specs.Words.{prefix_of}
+use Rattle.isl_tree.specs.Words.{prefix_of}
 use Rattle.isl_stmt.proofs.WordReads.{prefix_there}
 use Rattle.isl_stmt.proofs.word.head_prefix.Goals as goal
 

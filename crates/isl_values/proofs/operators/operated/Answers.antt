@@ -6,7 +6,7 @@ use Rattle.isl_operators.specs.Operations.{is_operation}
 use Rattle.isl_space.specs.Names.{joined as both}
 use Rattle.isl_union.specs.KeptValue.{KeptValue, Has}
 use Rattle.isl_union.specs.Numbers.{IsWithinLimit}
-use Rattle.isl_expr.specs.declared.tree.Binary.TheVariants as b
+use Rattle.isl_tree.specs.declared.statement.Binary.TheVariants as b
 use Rattle.isl_operators.specs.Formed.{OperatorForms, PairsWide}
 use Rattle.isl_operators.proofs.FaultLaws.{plain_units}
 use Rattle.isl_operators.proofs.MadeLaws.{always, operator_says}
@@ -62,7 +62,7 @@ returns-in_default c =
           (PairEnds (OperatorForms c.args.operator) left.params right.params (Has left) (Has right)) _ _
           (fault_ends _ Wide _ _ (both left.params right.params) (joined_names left.params right.params) same) _ r
           c.answered-in_default.result _ c.answered-in_default.ensures
-          (outcome_value r _ _ _ _ _ _ same e.written e.kept e.params e.elements (λ plain. e.definitions plain.0 plain.1) e.numbers)
+          (outcome_value r _ _ _ _ _ _ same e.written e.kept e.params e.elements (λ plain. e.definitions plain.2 plain.0 plain.1) e.numbers)
           e.units);
       goes_on = subst (λ (v : KeptValue). IfOk c.answered-in_default.result
           (λ _. GoesOn (PairEnds (OperatorForms c.args.operator) v.params right.params (Has v) (Has right)))) c.deref.ensures

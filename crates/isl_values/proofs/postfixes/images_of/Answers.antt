@@ -20,7 +20,7 @@ returns-clause-made c =
     (fault_ends _ Wide _ _ (joined map.params argument.params) (joined_names map.params argument.params) same) _ c.applied.result
     c.answered.result _ c.answered.ensures
     (outcome_value c.applied.result _ _ _ _ _ _ same e.written e.kept e.params e.elements
-    (λ plain. e.definitions plain.0 plain.1) e.numbers)
+    (λ never. absurd never) e.numbers)
     e.units
 
 pub returns-clause-goes_on : goal.returns-clause-goes_on

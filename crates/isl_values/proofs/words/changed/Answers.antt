@@ -18,7 +18,7 @@ returns-clause-made c =
     answered_made refusal_of_word_fault _ _ (WordEnds c.args.word (Has operand)) _ _
     (word_fault_ends _ (FormsWide (WordForms c.args.word) (Has operand)) _ _ (WordMisses c.args.word (Has operand))) _
     c.transformed.result c.word_answered.result _ c.word_answered.ensures
-    (outcome_value c.transformed.result _ _ _ _ _ _ refl e.written e.kept e.params e.elements e.definitions e.numbers)
+    (outcome_value c.transformed.result _ _ _ _ _ _ refl e.written e.kept e.params e.elements (λ plain. e.definitions plain.1 plain.0) e.numbers)
     e.units
 
 pub returns-clause-goes_on : goal.returns-clause-goes_on

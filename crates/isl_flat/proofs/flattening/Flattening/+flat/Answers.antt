@@ -1,5 +1,5 @@
 use Rattle.std.proofs.Common.{◌≡◌, ◌∙◌, [], sym, ap, subst, rules}
-use Rattle.isl_expr.specs.declared.tree.Expr.{Expr}
+use Rattle.isl_tree.specs.declared.statement.Expr.{Expr}
 use Rattle.isl_flat.specs.Flat.{Leaves, ended, past_row, begun, nested, followed, operand_of}
 use Rattle.isl_flat.proofs.FlatLaws.{at-Row, at-Post, at-Prefix, at-Any, at-Last, row_on, post_on, postfixes_end, fewer_links}
 use Rattle.isl_flat.proofs.FlatLaws.{fewer_postfixes}

@@ -1,2 +1,0 @@
-pub mod Params
-pub use Rattle.isl_lower_params.specs.Params

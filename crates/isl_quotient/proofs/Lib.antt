@@ -1,0 +1,11 @@
+pub mod CodeLaws
+pub mod KeptLaws
+pub mod MeterLaws
+pub mod OpenedLaws
+pub mod OpeningLaws
+pub mod QuotientLaws
+pub mod SolvedLaws
+pub mod StepLaws
+pub mod TurnLaws
+pub mod UnitLaws
+pub mod WithinLaws

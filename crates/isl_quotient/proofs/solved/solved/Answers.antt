@@ -1,0 +1,18 @@
+use Rattle.std.proofs.Common.{◌≡◌, ◌≤◌, arith, length, None}
+use Rattle.isl_quotient.proofs.SolvedLaws.{given_low, solved_few, solved_left}
+use Rattle.isl_quotient.proofs.solved.solved.Goals as goal
+
+pub eliminate-requires-clause-col_in : goal.eliminate-requires-clause-col_in
+eliminate-requires-clause-col_in c = given_low _ c.args.system.now.rows c.args.cols.now c.args.given c.requires.cols_in c.requires.given
+
+pub returns-clause-left : goal.returns-clause-left
+returns-clause-left c =
+    let g = c.args.meter.now in
+    let s = c.args.system.now in
+    let cols = c.args.cols.now in
+    let given = c.args.given in
+    let e = c.in_ok-systems.ensures in
+    let systems = c.in_ok-systems.systems.items in
+    let few = solved_few g s cols given c.requires.well_formed c.requires.cols_in c.requires.undefining c.requires.given systems e.solved_column in
+    solved_left g s cols given c.requires.well_formed c.requires.cols_in c.requires.undefining c.requires.given systems c.pop.new.self.items c.pop.result
+    few c.pop.ensures.items (λ none. let e = rw none at c.pop.ensures.cases in let z = e.0 in omega (arith, z)) e.projection e.within e.definitions

@@ -1,0 +1,7 @@
+-- inner
+pub mod Candidate
+pub mod Given
+pub mod Opened
+pub mod Pair
+pub mod Quotient
+pub mod Turned

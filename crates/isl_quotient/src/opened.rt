@@ -1,0 +1,131 @@
+//! Systems in which defined columns are free.
+
+ghost use Rattle.std.specs.Prelude.{◌≡◌, ◌<◌, ◌≤◌, [], ◌∷◌, ◌++◌, negsuc, All, IfOk, length};
+ghost use Rattle.std.specs.List.{range_with_len};
+ghost use Rattle.isl_math.specs.Dot.{scaled};
+ghost use Rattle.isl_meter.specs.Gauge.{IsDone, IsWithin};
+ghost use Rattle.isl_omega.specs.Column.{IsProper};
+ghost use Rattle.isl_piece.specs.Definition.{IsDefinition};
+ghost use Rattle.isl_piece.specs.System.{IsSystemWithin, free_columns};
+ghost use Rattle.isl_elim.specs.Opened.{padded, least_row, most_row};
+ghost use Rattle.isl_quotient.specs.Opened.{opened_system};
+
+use isl_elim::columns_between;
+use isl_meter::{Cut, Int, Meter};
+use isl_piece::{Coefs, Definition, Row, RowKind, Rows, System};
+use std::alloc::{AllocError, Global};
+
+// The coefficients, and 0 at the columns behind them.
+fn padded(coefs: Coefs, columns: usize) -> Result<Coefs, AllocError>
+    requires { length coefs ≤ columns }
+    ensures { IfOk result (λ wide. wide ≡ padded columns coefs) }
+{
+    let zeros = columns - coefs.len();
+    let mut wide = coefs;
+    for i in 0..zeros {
+        wide.push(Int::ZERO)?;
+    }
+    Ok(wide)
+}
+
+// The negatives of the numbers.
+#[tactic(auto, using(std::proofs::lemmas::Grind::common_steps, isl_elim::proofs::OpenedLaws::row_steps))]
+fn negatives(alloc: Global, numbers: &[Int], meter: &Meter) -> Result<Coefs, AllocError>
+    requires { All (IsWithin meter.now) numbers.now }
+    ensures { IfOk result (λ coefs. coefs ≡ scaled (negsuc 0) numbers.now) }
+{
+    let mut coefs = Coefs::new(alloc);
+    for i in 0..numbers.len() {
+        coefs.push(numbers[i].neg(meter))?;
+    }
+    Ok(coefs)
+}
+
+// The row that the form is at least `k` times the column.
+#[tactic(auto, using(std::proofs::lemmas::Grind::common_steps, isl_elim::proofs::OpenedLaws::row_steps))]
+fn least_row(
+    alloc: Global,
+    definition: &Definition,
+    columns: usize,
+    meter: &Meter,
+) -> Result<Row, AllocError>
+    requires definition { IsDefinition meter.now (length definition.now.coefs) definition.now }
+    requires column { length definition.now.coefs < columns }
+    ensures { IfOk result (λ row. row ≡ least_row columns definition.now) }
+{
+    let mut coefs = definition.coefs.copy(alloc)?;
+    coefs.push(Int::new(definition.k).neg(meter))?;
+    let wide = padded(coefs, columns)?;
+    let constant = Int::new(definition.constant);
+    Ok(Row::new(RowKind::AtLeast, wide, constant, Int::ONE))
+}
+
+// The row that it is at most `k - 1` more.
+#[tactic(auto, using(std::proofs::lemmas::Grind::common_steps, isl_elim::proofs::OpenedLaws::row_steps))]
+fn most_row(
+    alloc: Global,
+    definition: &Definition,
+    columns: usize,
+    meter: &mut Meter,
+) -> Result<Row, Cut>
+    requires definition { IsDefinition meter.old (length definition.now.coefs) definition.now }
+    requires column { length definition.now.coefs < columns }
+    ensures { IsDone meter.old meter.new (λ row. (row ≡ most_row columns definition.now) × IsWithin meter.old row.constant) result }
+{
+    let greatest = Int::new(definition.k).sub(Int::ONE, meter)?;
+    let constant = greatest.sub(Int::new(definition.constant), meter)?;
+    let mut coefs = negatives(alloc, definition.coefs.as_slice(), meter)?;
+    coefs.push(Int::new(definition.k))?;
+    let wide = padded(coefs, columns)?;
+    Ok(Row::new(RowKind::AtLeast, wide, constant, Int::ONE))
+}
+
+// Puts the rows of a definition behind the others.
+#[tactic(auto, using(std::proofs::lemmas::Grind::common_steps, isl_elim::proofs::OpenedLaws::row_steps))]
+fn push_definition(
+    alloc: Global,
+    definition: &Definition,
+    columns: usize,
+    rows: &mut Rows,
+    meter: &mut Meter,
+) -> Result<(), Cut>
+    requires definition { IsDefinition meter.old (length definition.now.coefs) definition.now }
+    requires column { length definition.now.coefs < columns }
+    requires rows { All (IsProper meter.old columns) rows.old }
+    ensures { IsDone meter.old meter.new (λ _. (rows.new ≡ rows.old ++ least_row columns definition.now ∷ most_row columns definition.now ∷ [])
+        × All (IsProper meter.old columns) rows.new) result }
+{
+    let least = least_row(alloc, definition, columns, meter)?;
+    let most = most_row(alloc, definition, columns, meter)?;
+    rows.push(least)?;
+    rows.push(most)?;
+    Ok(())
+}
+
+/// The system with no definition, whose rows say what these said.
+#[tactic(auto, using(std::proofs::lemmas::Grind::common_steps, isl_elim::proofs::OpenedLaws::opening_steps))]
+pub(crate) fn opened(alloc: Global, system: &System, meter: &mut Meter) -> Result<System, Cut>
+    requires well_formed { IsSystemWithin meter.old system.now }
+    ensures { IsDone meter.old meter.new (λ whole. (whole ≡ opened_system system.now) × IsSystemWithin meter.old whole) result }
+{
+    let mut rows = system.rows.copy(alloc)?;
+    for definition in system.definitions.as_slice() {
+        push_definition(alloc, definition, system.columns, &mut rows, meter)?;
+    }
+    Ok(System::from_rows(alloc, system.columns, rows))
+}
+
+/// The columns, and all that are defined.
+pub(crate) fn with_defined(
+    alloc: Global,
+    system: &System,
+    cols: &[usize],
+) -> Result<Vec<usize>, AllocError>
+    requires { length system.now.definitions ≤ system.now.columns }
+    ensures { IfOk result (λ all. all.items ≡ cols.now ++ range_with_len (free_columns system.now) (length system.now.definitions)) }
+{
+    let mut all = Vec::from_slice(alloc, cols)?;
+    let mut defined = columns_between(alloc, system.free(), system.columns)?;
+    all.append(&mut defined)?;
+    Ok(all)
+}

@@ -1,0 +1,3 @@
+pub use Rattle.isl_coalesce.specs.Coalesced
+pub use Rattle.isl_coalesce.specs.Joint
+pub use Rattle.isl_gist.specs.Gist

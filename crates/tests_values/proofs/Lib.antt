@@ -1,3 +1,0 @@
-mod AssumedLaws
-mod Everywhere
-mod Within
