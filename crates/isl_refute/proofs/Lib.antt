@@ -1,0 +1,10 @@
+pub mod TreeLaws
+pub mod FormedLaws
+pub mod StandingLaws
+pub mod WithinLaws
+pub mod StepLaws
+pub mod Sound
+pub mod CheckLaws
+pub mod NodeLaws
+pub mod CertifiedLaws
+pub mod TextLaws

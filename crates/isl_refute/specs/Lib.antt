@@ -1,0 +1,7 @@
+pub mod Refutes
+pub mod Passes
+pub mod CertText
+pub mod Parts
+pub mod Checked
+pub use Rattle.isl_piece.specs.Row
+pub use Rattle.isl_piece.specs.System

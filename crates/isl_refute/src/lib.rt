@@ -1,0 +1,15 @@
+//! Proofs that rows hold nowhere outside some systems, and a checker of them that shares nothing with what finds them.
+#![tactic(auto)]
+
+mod added;
+mod checker;
+mod facts;
+mod forms;
+mod places;
+mod steps;
+mod text;
+mod tree;
+
+pub use checker::check;
+pub use text::cert_text;
+pub use tree::{Cert, Form};
