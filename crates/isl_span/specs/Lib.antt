@@ -1,0 +1,4 @@
+pub mod Spanned
+pub mod Forms
+pub mod Independent
+pub mod Points

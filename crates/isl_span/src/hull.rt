@@ -1,0 +1,84 @@
+//! The affine hull of the points of systems.
+
+ghost use Rattle.std.specs.Prelude.{◌≡◌, ◌<◌, ◌+◌, All, IfOk, MatchOption, length};
+ghost use Rattle.isl_meter.specs.Gauge.{IsMetered};
+ghost use Rattle.isl_elim.specs.Elimination.{HoldsAtAny};
+ghost use Rattle.isl_elim.specs.Sample.{IsNowhere, IsSample};
+ghost use Rattle.isl_span.specs.Points.{AreFormsFor, IsHullSystem, IsOver, IsPoint};
+
+use crate::forms::{exchanged, number_forms};
+use crate::points::{first_point, point_off};
+use isl_meter::{Cut, Meter};
+use isl_piece::{Rows, System};
+use std::alloc::Global;
+
+// Asks whether the form at the place is 0 at all points. Where it is not it goes, and those before it become 0 at one point more.
+#[tactic(auto, using(std::proofs::lemmas::Grind::common_steps, isl_meter::proofs::CutLemmas::charges))]
+fn asked(
+    alloc: Global,
+    systems: &[System],
+    columns: usize,
+    forms: Rows,
+    at: usize,
+    meter: &mut Meter,
+) -> Result<Rows, Cut>
+    requires inside { at < length forms }
+    requires systems { All (IsOver meter.old columns) systems.now }
+    requires forms { AreFormsFor meter.old columns (IsPoint columns systems.now) (at + 1) forms }
+    ensures forms { IfOk result (AreFormsFor meter.old columns (IsPoint columns systems.now) at) }
+    ensures meter { IsMetered meter.old meter.new result }
+{
+    match point_off(alloc, systems, columns, &forms.as_slice()[at], meter)? {
+        None => Ok(forms),
+        Some(point) => exchanged(alloc, forms.as_slice(), at, point.as_slice(), meter),
+    }
+}
+
+// The equations that hold at all points of the systems, of which this is one.
+#[tactic(auto, using(std::proofs::lemmas::Grind::common_steps, isl_meter::proofs::CutLemmas::charges))]
+fn rows_through(
+    alloc: Global,
+    systems: &[System],
+    point: &[i128],
+    meter: &mut Meter,
+) -> Result<Rows, Cut>
+    requires systems { All (IsOver meter.old (length point.now)) systems.now }
+    requires point { IsSample meter.old (length point.now) (HoldsAtAny systems.now) point.now }
+    ensures forms { IfOk result (AreFormsFor meter.old (length point.now) (IsPoint (length point.now) systems.now) 0) }
+    ensures meter { IsMetered meter.old meter.new result }
+{
+    let columns = point.len();
+    let mut forms = number_forms(alloc, point, meter)?;
+    let mut at = columns;
+    while at > 0 {
+        at -= 1;
+        forms = asked(alloc, systems, columns, forms, at, meter)?;
+    }
+    Ok(forms)
+}
+
+/// The system of the equations that hold at all points of the systems; none where these have no point. Forms that are 0 at the points
+/// found so far are asked one after another for a point at which they are not.
+///
+/// # Errors
+///
+/// `Overflow` where a number passes the limit of the meter, `Budget` where its units are used up, and `NoMemory`.
+#[tactic(auto, using(std::proofs::lemmas::Grind::common_steps, isl_meter::proofs::CutLemmas::charges))]
+pub fn hull_of(
+    alloc: Global,
+    systems: &[System],
+    columns: usize,
+    meter: &mut Meter,
+) -> Result<Option<System>, Cut>
+    requires { All (IsOver meter.old columns) systems.now }
+    ensures exact { IfOk result (λ found. MatchOption found
+        (IsNowhere columns (HoldsAtAny systems.now))
+        (IsHullSystem meter.old columns (IsPoint columns systems.now))) }
+    ensures meter { IsMetered meter.old meter.new result }
+{
+    let Some(point) = first_point(alloc, systems, columns, meter)? else {
+        return Ok(None);
+    };
+    let rows = rows_through(alloc, systems, point.as_slice(), meter)?;
+    Ok(Some(System::from_rows(alloc, columns, rows)))
+}
