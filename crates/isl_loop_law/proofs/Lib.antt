@@ -1,11 +1,11 @@
-mod WordLaws
-mod NameLaws
-mod SignLaws
-mod ExprLaws
+pub mod WordLaws
+pub mod NameLaws
+pub mod SignLaws
+pub mod ExprLaws
 mod TermLaws
 mod SideLaws
 mod LeftLaws
 mod RowLaws
 mod NodeLaws
-mod LoopLaws
+pub mod LoopLaws
 mod TraceLaws

@@ -1,0 +1,4 @@
+pub mod FrontLaws
+pub mod BestLaws
+pub mod RowLaws
+pub mod StageLaws

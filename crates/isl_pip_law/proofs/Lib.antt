@@ -1,0 +1,4 @@
+pub mod LeastLaws
+pub mod LevelLaws
+pub mod MirrorLaws
+pub mod SpaceLaws

@@ -1,0 +1,3 @@
+pub mod Least
+pub mod Levels
+pub mod Mirror

@@ -1,0 +1,5 @@
+mod ExprLaws
+mod LineLaws
+mod NameLaws
+mod TextLaws
+pub mod TreeLaws

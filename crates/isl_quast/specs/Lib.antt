@@ -1,0 +1,12 @@
+pub mod Quasi
+pub mod Tree
+pub mod Tuple
+pub mod ForestText
+pub mod OneTree
+pub mod Size
+pub mod Stored
+pub mod Value
+pub use Rattle.isl_loop.specs.Expr
+pub use Rattle.isl_loop.specs.Formed
+pub use Rattle.isl_row_text.specs.Joined
+pub use Rattle.isl_row_text.specs.Naming
