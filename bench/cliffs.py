@@ -157,6 +157,8 @@ ROWS = {
     "300 times 300 accesses, each before each": accesses(300) + "any M before M under { S[i] -> [i] };",
     "1500 times 1500 pieces, joined": joined(1500),
     "tiles in three dimensions, in order": f"T := {TILES}; T << T;",
+    "tiles in three dimensions, legal": "d := [n] -> { S[i, j, k] -> S[i, j, k + 1] : 0 <= i, j < n and 0 <= k < n - 1 }; "
+    f"T := {TILES}; d <= (T << T);",
     "last under such tiles, bound": NEST + f"T := {TILES}; last W before W under T;",
     "last under such tiles, written in place": NEST + f"last W before W under {TILES};",
     "a layout of lines in a cache, and its inverse": "C := { M[x] -> S[floor(x/64) mod 64] }; C . C^-1;",

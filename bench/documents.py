@@ -2,7 +2,8 @@
 """Whether the documents speak of what is there, and how many words they have.
 
 A word that begins an item of docs/DEFINITIONS.md must stand in `specs/` of a crate that the item or its head names. A crate or a path that
-a page names must be there, and docs/EDITS.md names each edit, in the table of its place. Prints each page's words, and what is not there.
+a page names must be there, and docs/EDITS.md names each edit, in the table of its place. Prints each page's words (what has a letter, so that
+numbers, signs and the bars of tables are none), their sum, and what is not there.
 """
 import glob
 import os
@@ -43,16 +44,21 @@ def missing_things(text):
 
 
 found = []
+words = 0
 for page in ["README.md", *sorted(glob.glob("docs/*.md"))]:
     with open(page) as file:
         text = file.read()
-    print(f"{len(text.split()):6} {page}")
+    words += (count := sum(any(map(str.isalpha, word)) for word in text.split()))
+    print(f"{count:6} {page}")
     found += [f"{page}: {what}" for what in missing_things(text)]
     if page == "docs/DEFINITIONS.md":
         found += [f"{page}: {what}" for what in missing_words(text)]
     if page == "docs/EDITS.md":
-        tables = zip(("must-fail", "wrong"), text.split("\n## ")[1:])
-        told = [(place, crate, name) for place, table in tables for name, crate in re.findall(r"^\| `(\w+)` \| `(\w+)`", table, re.M)]
+        tried, others = text.split("\n## ")[1:]
+        told = [("must-fail", crate, name) for name, crate in re.findall(r"^\| `(\w+)` \| `(\w+)`", tried, re.M)]
+        for crate, names in re.findall(r"^\| `(\w+)` \| (.*) \|$", others, re.M):
+            told += [("wrong", crate, name) for name in re.findall(r"`(\w+)`", names)]
         found += [f"{page}: {'/'.join(edit)} is not told, or not there" for edit in set(told) ^ set(EDITS)]
+print(f"{words:6} in all")
 print("\n".join(sorted(set(found))) or "all is there")
 sys.exit(bool(found))

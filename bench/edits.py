@@ -1,5 +1,5 @@
 #!/usr/bin/env python3
-"""Tries the wrong bodies that the gate does not try: crates/CRATE/wrong/*.edit, for who changes CRATE. docs/EDITS.md says what each breaks.
+"""Tries the wrong bodies that the gate does not try: crates/CRATE/wrong/*.edit, for who changes CRATE. docs/EDITS.md names them.
 
     bench/edits.py CRATE..
 

@@ -19,22 +19,38 @@ TICKS = os.sysconf("SC_CLK_TCK")
 BUDGET, LEAST = 300 / 1000, 30
 
 
-def provers():
-    """The provers of the gate that run now: process and start, crate, kind, processor seconds."""
+def parents():
+    """The parent of each process that runs now."""
+    found = {}
     for folder in glob.glob("/proc/[0-9]*"):
+        try:
+            with open(f"{folder}/stat") as file:
+                found[int(os.path.basename(folder))] = int(file.read().rpartition(")")[2].split()[1])
+        except (OSError, IndexError, ValueError):
+            continue  # it has ended meanwhile
+    return found
+
+
+def provers(gate):
+    """The provers that run now below the process of the gate: process and start, crate, kind, processor seconds with what they started."""
+    above = parents()
+    for process in above:
+        over = process
+        while over > 1 and over != gate:
+            over = above.get(over, 0)
+        if over != gate:
+            continue  # another gate's
+        folder = f"/proc/{process}"
         try:
             with open(f"{folder}/comm") as file:
                 if file.read().strip() != "rattle":
                     continue
-            where = os.readlink(f"{folder}/cwd")
-            is_edit = os.path.basename(where).startswith("rt-edit-")  # of any gate that runs now
-            if not is_edit and not where.startswith(f"{os.getcwd()}/crates/"):
-                continue  # another checkout's
+            is_edit = os.path.basename(os.readlink(f"{folder}/cwd")).startswith("rt-edit-")
             with open(f"{folder}/cmdline", "rb") as file:
                 words = file.read().decode(errors="replace").split("\0")
             with open(f"{folder}/stat") as file:
                 stat = file.read().rpartition(")")[2].split()
-            seconds = (int(stat[11]) + int(stat[12])) / TICKS
+            seconds = sum(int(ticks) for ticks in stat[11:15]) / TICKS
             kind = "edits" if is_edit else "tests" if "--test" in words else "proof"
             yield (folder, stat[19]), words[words.index("--crate-name") + 1], kind, seconds
         except (OSError, IndexError, ValueError):
@@ -45,7 +61,7 @@ def run(log, words):
     seen, begin = {}, time.time()
     gate = subprocess.Popen(["rt", "ci", *words])
     while gate.poll() is None:
-        for key, crate, kind, seconds in provers():
+        for key, crate, kind, seconds in provers(gate.pid):
             seen[key] = crate, kind, seconds
         time.sleep(0.2)
     used = resource.getrusage(resource.RUSAGE_CHILDREN)
