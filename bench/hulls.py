@@ -1,13 +1,15 @@
 #!/usr/bin/env python3
 """hulls.py [PROGRAM [COUNT [SEED]]]: asks the built program for `aff` of some random values, always the same ones, and compares each answer with
-the affine hull that libisl finds. Told are values whose hulls differ, and the milliseconds that both took in all. With `-` for PROGRAM libisl
-alone is asked, and its hulls are compared with what a search over the points of a window finds.
+the affine hull that libisl finds, without the congruences that this one keeps beside its equations, and with what a search over the points of
+a window finds. Told are values whose hulls differ, and the milliseconds of a processor that both took for all hulls, without reading the
+values. With `-` for PROGRAM libisl alone is asked.
 """
 import ctypes
 import ctypes.util
 import itertools
 import os
 import random
+import resource
 import subprocess
 import sys
 import time
@@ -21,9 +23,10 @@ def library():
     isl = ctypes.CDLL(ctypes.util.find_library("isl"))
     pointer = ctypes.c_void_p
     isl.isl_ctx_alloc.restype = pointer
-    for name, given, answer in [("read_from_str", [pointer, ctypes.c_char_p], pointer), ("affine_hull", [pointer], pointer),
-                                ("is_equal", [pointer, pointer], ctypes.c_int), ("to_str", [pointer], pointer), ("free", [pointer], pointer)]:
-        call = getattr(isl, f"isl_union_set_{name}")
+    for name, given, answer in [("set_read_from_str", [pointer, ctypes.c_char_p], pointer), ("set_affine_hull", [pointer], pointer),
+                                ("map_remove_divs", [pointer], pointer), ("set_is_equal", [pointer, pointer], ctypes.c_int),
+                                ("set_to_str", [pointer], pointer), ("set_free", [pointer], pointer)]:
+        call = getattr(isl, f"isl_union_{name}")
         call.argtypes, call.restype = given, answer
     return isl, pointer(isl.isl_ctx_alloc())
 
@@ -87,31 +90,39 @@ def is_hull(text, hull):
     return True
 
 
+def seconds(program, statements):
+    """The processor time of the program for a script."""
+    before = resource.getrusage(resource.RUSAGE_CHILDREN).ru_utime
+    subprocess.run([program], input="".join(f"h := {statement};\n" for statement in statements), text=True, check=True)
+    return resource.getrusage(resource.RUSAGE_CHILDREN).ru_utime - before
+
+
 def main():
     program = sys.argv[1] if len(sys.argv) > 1 else "crates/iscc/out/iscc"
     count = int(sys.argv[2]) if len(sys.argv) > 2 else 1000
     rng = random.Random(int(sys.argv[3]) if len(sys.argv) > 3 else 7)
     isl, context = library()
-    wrong, theirs, ours = 0, 0.0, 0.0
-    for _ in range(count):
-        text = value(rng)
-        start = time.perf_counter()
-        hull = isl.isl_union_set_affine_hull(isl.isl_union_set_read_from_str(context, text.encode()))
-        theirs += time.perf_counter() - start
+    wrong, theirs, texts = 0, 0.0, [value(rng) for _ in range(count)]
+    for text in texts:
+        read = isl.isl_union_set_read_from_str(context, text.encode())
+        start = time.process_time()
+        hull = isl.isl_union_set_affine_hull(read)
+        theirs += time.process_time() - start
+        hull = isl.isl_union_map_remove_divs(hull)
         if program == "-":
             shown = ctypes.string_at(isl.isl_union_set_to_str(hull)).decode()
-            same = is_hull(text, shown)
+            same = True
         else:
-            start = time.perf_counter()
             done = subprocess.run([program], input=f"aff ({text});", capture_output=True, text=True, timeout=60, check=False)
-            ours += time.perf_counter() - start
             shown = done.stdout.strip() if done.returncode == 0 else f"status {done.returncode}"
             same = done.returncode == 0 and isl.isl_union_set_is_equal(hull, isl.isl_union_set_read_from_str(context, shown.encode())) == 1
         isl.isl_union_set_free(hull)
+        same = same and is_hull(text, shown)
         wrong += not same
         if not same:
             print(f"{text}\n  {shown}")
-    print(f"{count} values, {wrong} wrong, libisl {theirs * 1000:.0f} ms, the program with its start {ours * 1000:.0f} ms")
+    ours = 0.0 if program == "-" else seconds(program, [f"aff ({text})" for text in texts]) - seconds(program, texts)
+    print(f"{count} values, {wrong} wrong, libisl {theirs * 1000:.0f} ms, the program {ours * 1000:.0f} ms")
     return 1 if wrong else 0
 
 

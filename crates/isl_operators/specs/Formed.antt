@@ -49,6 +49,7 @@ WordForms p.Unwrap s formed = ⊥
 WordForms p.Zip s formed = ⊥
 WordForms p.LexMin s formed = ⊥
 WordForms p.LexMax s formed = ⊥
+WordForms p.AffineHull s formed = ⊥
 WordForms p.Coalesce s formed = ⊥
 WordForms p.Sample s formed = ⊥
 WordForms p.Scan s formed = ⊥

@@ -1,4 +1,5 @@
 pub mod Operations
+pub mod Hull
 pub mod Formed
 pub mod Made
 pub mod Fault

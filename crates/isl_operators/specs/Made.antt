@@ -22,6 +22,7 @@ use Rattle.isl_tree.specs.declared.statement.Prefix.TheVariants as p
 use Rattle.isl_tree.specs.Words.{word_row}
 use Rattle.isl_relation.specs.Wide.{IsFormFault, IsLiveIn}
 use Rattle.isl_coalesce.specs.Coalesced.{IsCoalesced}
+use Rattle.isl_hull.specs.Hull.{IsHullOf}
 pub use Rattle.isl_outcome.specs.Why.{IsPaid}
 use Rattle.isl_operators.specs.declared.fault.WordFault.{WordFault}
 use Rattle.isl_operators.specs.declared.fault.WordFault.TheVariants as word_fault
@@ -98,6 +99,7 @@ IsWordOf p.DomainMap operand value = IsAnyWordOf p.DomainMap operand value
 IsWordOf p.RangeMap operand value = IsAnyWordOf p.RangeMap operand value
 IsWordOf p.LexMin operand value = IsAnyWordOf p.LexMin operand value
 IsWordOf p.LexMax operand value = IsAnyWordOf p.LexMax operand value
+IsWordOf p.AffineHull operand value = IsHullOf operand value
 IsWordOf p.Coalesce operand value = IsPutTogether operand value
 IsWordOf p.Sample operand value = ⊥
 IsWordOf p.Scan operand value = ⊥

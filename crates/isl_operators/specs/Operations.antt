@@ -14,6 +14,7 @@ use Rattle.isl_relation.specs.Maps.{DomainHas, RangeHas, DeltasHas, RestrictRang
 use Rattle.isl_relation.specs.Pairs.{WrapHas, CrossMapsHas, ZipHas, DomainMapHas, RangeMapHas}
 use Rattle.isl_relation.specs.Orders.{ComesAfter, ComesBefore, IsDownTo, IsUpTo, OrderedMapsHas, OrderedSetsHas}
 use Rattle.isl_relation.specs.Extremes.{FirstHas, HasFirst}
+use Rattle.isl_operators.specs.Hull.{HullHas}
 
 -- ---- operators
 -- the operators whose elements are told by those of their operands; tests make no value, and what `%` has outside of the context is not
@@ -80,8 +81,8 @@ OperatorHas b.Superset Left Right element = ⊥
 abbrev pub is_operation_word : Prefix → Bool
 is_operation_word word = tells_elements word
 
--- What a word makes of an operand over these parameters, by the elements that this has at all valuations: today's words make of those at
--- one valuation what they have there. `coalesce` puts pieces together, and leaves the elements as they are.
+-- What a word makes of an operand over these parameters, by the elements that this has at all valuations: `aff` of all of them, the others
+-- of those at one valuation what they have there. `coalesce` puts pieces together, and leaves the elements as they are.
 abbrev pub WordHas : Prefix → List Name → (Valuation → Element → Type 0) → Valuation → Element → Type 0
 WordHas p.Domain names Operand valuation element = DomainHas (Operand valuation) element
 WordHas p.Range names Operand valuation element = RangeHas (Operand valuation) element
@@ -94,6 +95,7 @@ WordHas p.DomainMap names Operand valuation element = DomainMapHas (Operand valu
 WordHas p.RangeMap names Operand valuation element = RangeMapHas (Operand valuation) element
 WordHas p.LexMin names Operand valuation element = FirstHas ComesBefore (Operand valuation) element
 WordHas p.LexMax names Operand valuation element = FirstHas ComesAfter (Operand valuation) element
+WordHas p.AffineHull names Operand valuation element = HullHas names Operand valuation element
 WordHas p.Coalesce names Operand valuation element = Operand valuation element
 WordHas p.Sample names Operand valuation element = ⊥
 WordHas p.Scan names Operand valuation element = ⊥
@@ -116,6 +118,7 @@ WordMisses p.Unwrap Operand = ⊥
 WordMisses p.Zip Operand = ⊥
 WordMisses p.DomainMap Operand = ⊥
 WordMisses p.RangeMap Operand = ⊥
+WordMisses p.AffineHull Operand = ⊥
 WordMisses p.Coalesce Operand = ⊥
 WordMisses p.Sample Operand = ⊥
 WordMisses p.Scan Operand = ⊥

@@ -13,6 +13,7 @@ ghost use Rattle.isl_operators.specs.Made.{IsAnyWordOf, IsCoalescedFlat, IsPaid,
 
 use crate::WordFault;
 use isl_assumed::Assumed;
+use isl_hull::affine_hull;
 use isl_lex::{lexmax, lexmin};
 use isl_maps::{deltas, domain, domain_map, identity, range, range_map, unwrap, wrap, zip};
 use isl_meter::{Cut, Meter};
@@ -106,6 +107,7 @@ pub fn transformed(
     match word {
         Prefix::LexMin => Ok(lexmin(alloc, operand, meter)?),
         Prefix::LexMax => Ok(lexmax(alloc, operand, meter)?),
+        Prefix::AffineHull => Ok(affine_hull(alloc, operand, meter)?),
         Prefix::Coalesce => Ok(put_together(alloc, operand, meter)?),
         _ => Ok(moved(alloc, word, operand, meter)?),
     }

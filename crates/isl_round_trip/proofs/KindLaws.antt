@@ -36,7 +36,7 @@ use Rattle.isl_kinds.specs.Typed.{kind_of, kind_in, kind_past_links, kind_past_p
 use Rattle.isl_state.specs.declared.list.ListPart.{ListPart}
 use Rattle.isl_state.specs.declared.list.ListPart.TheVariants.{First}
 use Rattle.isl_values.specs.Live.{IsSampleAt}
-use Rattle.isl_values.specs.State.{Kept, StateView, kept_of, scope_of, type_of, value_at}
+use Rattle.isl_values.specs.State.{AtAssumed, Kept, StateView, kept_of, scope_of, type_of, value_at}
 use Rattle.isl_values.specs.Worked.{part_taken}
 use Rattle.isl_values.specs.Selection.{KeptHas, PostfixHas, SelectsAt, SelectsIn, SelectsPastLinks, SelectsPastPostfixes}
 use Rattle.isl_values.specs.Selection.{IsContentOf, IsGistOfTwo, IsSelected, IsSelectedAt, IsSelectedIn, IsTogetherOf, context_of}
@@ -101,10 +101,11 @@ alike_of literal spelled =
     (and_parts (are_distinct literal.params) (are_alike literal.pieces) parts.0).1
 
 -- ---- expressions
-module _ (state : StateView) (valuation : Valuation) (all : AreWritable state) where
-  named_kind : (part : ListPart) (name : Name) (kind : ValueKind) (element : Element) → kind_of (scope_of state) (e.Name name) ≡ Some kind
+module _ (state : StateView) (all : AreWritable state) where
+  named_kind : (valuation : Valuation) (part : ListPart) (name : Name) (kind : ValueKind) (element : Element)
+      → kind_of (scope_of state) (e.Name name) ≡ Some kind
       → SelectsAt state part (e.Name name) valuation element → IsSpaceOf kind element.space
-  named_kind part name kind element is has = by (kept_of state name) refl has
+  named_kind valuation part name kind element is has = by (kept_of state name) refl has
     where
       by : (o : Option Kept) → kept_of state name ≡ o → KeptHas part o valuation element → IsSpaceOf kind element.space
       by None none has = absurd has
@@ -116,73 +117,80 @@ module _ (state : StateView) (valuation : Valuation) (all : AreWritable state) w
           (has_kind kept.kind value.params valuation element value.pieces (all name kept there part).0 has)
 
   mutual
-    pub selected_kind : (part : ListPart) (expr : Expr) → All IsSpelled (literals_of expr)
+    pub selected_kind : (valuation : Valuation) (part : ListPart) (expr : Expr) → All IsSpelled (literals_of expr)
         → AreOfKind (λ x. SelectsAt state part expr valuation x) (kind_of (scope_of state) expr)
-    selected_kind part (e.Name name) spelled = record { lies = λ kind is element has. named_kind part name kind element is has }
-    selected_kind part (e.Literal literal) spelled = record {
+    selected_kind valuation part (e.Name name) spelled = record {
+      lies = λ kind is element has. named_kind valuation part name kind element is has;
+    }
+    selected_kind valuation part (e.Literal literal) spelled = record {
       lies = λ kind is element has. as_kind element.space (kind_of_pieces literal.pieces) kind is
           (in_pieces literal.params valuation element literal.pieces (alike_of literal (All-head IsSpelled literal [] spelled)) has);
     }
-    selected_kind part (Row' s first t links) spelled =
-        links_kind _ (λ x. SelectsIn state First first valuation x) (kind_in (scope_of state) first) links
-        (in_kind _ First first (all_left IsSpelled (literals_in first) (literals_in_links links) spelled))
+    selected_kind valuation part (Row' s first t links) spelled =
+        links_kind valuation _ (λ x. SelectsIn state First first valuation x) (kind_in (scope_of state) first) links
+        (in_kind valuation _ First first (all_left IsSpelled (literals_in first) (literals_in_links links) spelled))
         (all_right IsSpelled (literals_in first) (literals_in_links links) spelled)
-    selected_kind part (Prefix' word s operand) spelled =
-        of_word word (declared_in (scope_of state) operand) (λ v x. SelectsIn state First operand v x) valuation
-        (kind_in (scope_of state) operand) (in_kind _ First operand spelled)
-    selected_kind part (Any' p source s sink t schedule) spelled =
+    selected_kind valuation part (Prefix' word s operand) spelled =
+        of_word word (declared_in (scope_of state) operand) (AtAssumed state (λ v x. SelectsIn state First operand v x)) valuation
+        (kind_in (scope_of state) operand)
+        (λ v. record { lies = λ kind is element has. (in_kind v _ First operand spelled).lies kind is element has.1 })
+    selected_kind valuation part (Any' p source s sink t schedule) spelled =
         let behind = all_right IsSpelled (literals_in source) (literals_in sink ++ literals_in schedule) spelled in
         of_any (λ x. SelectsIn state First source valuation x) (λ x. SelectsIn state First sink valuation x)
         (λ x. SelectsIn state First schedule valuation x) (kind_in (scope_of state) source) (kind_in (scope_of state) sink)
         (kind_in (scope_of state) schedule)
-        (in_kind _ First source (all_left IsSpelled (literals_in source) (literals_in sink ++ literals_in schedule) spelled))
-        (in_kind _ First sink (all_left IsSpelled (literals_in sink) (literals_in schedule) behind))
-        (in_kind _ First schedule (all_right IsSpelled (literals_in sink) (literals_in schedule) behind))
-    selected_kind part (Last' p source s sink t schedule) spelled =
+        (in_kind valuation _ First source (all_left IsSpelled (literals_in source) (literals_in sink ++ literals_in schedule) spelled))
+        (in_kind valuation _ First sink (all_left IsSpelled (literals_in sink) (literals_in schedule) behind))
+        (in_kind valuation _ First schedule (all_right IsSpelled (literals_in sink) (literals_in schedule) behind))
+    selected_kind valuation part (Last' p source s sink t schedule) spelled =
         of_last (λ x. SelectsIn state First source valuation x) (λ x. SelectsIn state First sink valuation x)
         (λ x. SelectsIn state First schedule valuation x) (kind_in (scope_of state) source) (kind_in (scope_of state) sink)
         (kind_in (scope_of state) schedule) part
-    selected_kind part (Post' s operand t postfixes) spelled =
-        postfixes_kind _ (λ x. SelectsIn state (part_taken postfixes) operand valuation x) (kind_in (scope_of state) operand) postfixes
-        (in_kind _ (part_taken postfixes) operand (all_left IsSpelled (literals_in operand) (literals_in_postfixes postfixes) spelled))
+    selected_kind valuation part (Post' s operand t postfixes) spelled =
+        postfixes_kind valuation _ (λ x. SelectsIn state (part_taken postfixes) operand valuation x) (kind_in (scope_of state) operand)
+        postfixes
+        (in_kind valuation _ (part_taken postfixes) operand
+        (all_left IsSpelled (literals_in operand) (literals_in_postfixes postfixes) spelled))
         (all_right IsSpelled (literals_in operand) (literals_in_postfixes postfixes) spelled)
 
-    in_kind : (m : Count) (part : ListPart) (row : Row_of-Expr m) → All IsSpelled (literals_in row)
+    in_kind : (valuation : Valuation) (m : Count) (part : ListPart) (row : Row_of-Expr m) → All IsSpelled (literals_in row)
         → AreOfKind (λ x. SelectsIn state part row valuation x) (kind_in (scope_of state) row)
-    in_kind m part end_of-Expr spelled = no_element None
-    in_kind m part (more_of-Expr expr rest) spelled = record {
-      lies = λ kind is element has. (selected_kind part expr spelled).lies kind is element has;
+    in_kind valuation m part end_of-Expr spelled = no_element None
+    in_kind valuation m part (more_of-Expr expr rest) spelled = record {
+      lies = λ kind is element has. (selected_kind valuation part expr spelled).lies kind is element has;
     }
 
-    links_kind : (m : Count) (Left : Element → Type 0) (o : Option ValueKind) (row : Row_of-Link m) → AreOfKind Left o
-        → All IsSpelled (literals_in_links row)
+    links_kind : (valuation : Valuation) (m : Count) (Left : Element → Type 0) (o : Option ValueKind) (row : Row_of-Link m)
+        → AreOfKind Left o → All IsSpelled (literals_in_links row)
         → AreOfKind (λ x. SelectsPastLinks state valuation Left row x) (kind_past_links (scope_of state) o row)
-    links_kind m Left o end_of-Link before spelled = record { lies = λ kind is element has. before.lies kind is element has }
-    links_kind m Left o (more_of-Link sign operand rest) before spelled =
-        links_kind _ (λ x. OperatorHas sign Left (λ y. SelectsAt state First operand valuation y) x)
+    links_kind valuation m Left o end_of-Link before spelled = record { lies = λ kind is element has. before.lies kind is element has }
+    links_kind valuation m Left o (more_of-Link sign operand rest) before spelled =
+        links_kind valuation _ (λ x. OperatorHas sign Left (λ y. SelectsAt state First operand valuation y) x)
         (by_two (joined sign) o (kind_of (scope_of state) operand)) rest
         (of_operator Left (λ y. SelectsAt state First operand valuation y) o (kind_of (scope_of state) operand) before
-        (selected_kind First operand (all_left IsSpelled (literals_of operand) (literals_in_links rest) spelled)) sign)
+        (selected_kind valuation First operand (all_left IsSpelled (literals_of operand) (literals_in_links rest) spelled)) sign)
         (all_right IsSpelled (literals_of operand) (literals_in_links rest) spelled)
 
-    postfixes_kind : (m : Count) (Operand : Element → Type 0) (o : Option ValueKind) (row : Row_of-Postfix m) → AreOfKind Operand o
-        → All IsSpelled (literals_in_postfixes row)
+    postfixes_kind : (valuation : Valuation) (m : Count) (Operand : Element → Type 0) (o : Option ValueKind) (row : Row_of-Postfix m)
+        → AreOfKind Operand o → All IsSpelled (literals_in_postfixes row)
         → AreOfKind (λ x. SelectsPastPostfixes state valuation Operand row x) (kind_past_postfixes (scope_of state) o row)
-    postfixes_kind m Operand o end_of-Postfix before spelled = record { lies = λ kind is element has. before.lies kind is element has }
-    postfixes_kind m Operand o (more_of-Postfix postfix rest) before spelled =
-        postfixes_kind _ (λ x. PostfixHas state valuation Operand postfix x) (kind_past (scope_of state) o postfix) rest
-        (postfix_kind Operand o postfix before
+    postfixes_kind valuation m Operand o end_of-Postfix before spelled = record {
+      lies = λ kind is element has. before.lies kind is element has;
+    }
+    postfixes_kind valuation m Operand o (more_of-Postfix postfix rest) before spelled =
+        postfixes_kind valuation _ (λ x. PostfixHas state valuation Operand postfix x) (kind_past (scope_of state) o postfix) rest
+        (postfix_kind valuation Operand o postfix before
         (all_left IsSpelled (literals_in_postfix postfix) (literals_in_postfixes rest) spelled))
         (all_right IsSpelled (literals_in_postfix postfix) (literals_in_postfixes rest) spelled)
 
-    postfix_kind : (Operand : Element → Type 0) (o : Option ValueKind) (postfix : Postfix) → AreOfKind Operand o
+    postfix_kind : (valuation : Valuation) (Operand : Element → Type 0) (o : Option ValueKind) (postfix : Postfix) → AreOfKind Operand o
         → All IsSpelled (literals_in_postfix postfix)
         → AreOfKind (λ x. PostfixHas state valuation Operand postfix x) (kind_past (scope_of state) o postfix)
-    postfix_kind Operand o Inverse before spelled = of_inverse Operand o before
-    postfix_kind Operand o (Apply argument) before spelled =
+    postfix_kind valuation Operand o Inverse before spelled = of_inverse Operand o before
+    postfix_kind valuation Operand o (Apply argument) before spelled =
         of_application Operand (λ y. SelectsAt state First argument valuation y) o (kind_of (scope_of state) argument) before
-        (selected_kind First argument spelled)
-    postfix_kind Operand o (Item number) before spelled = of_item Operand o before
+        (selected_kind valuation First argument spelled)
+    postfix_kind valuation Operand o (Item number) before spelled = of_item Operand o before
 
 -- ---- what is kept
 -- a sample is of the kind of its operand
@@ -198,7 +206,7 @@ module _ (state : StateView) (all : AreWritable state) where
   operand_kind m end_of-Expr spelled argument selected valuation here = absurd selected
   operand_kind m (more_of-Expr expr rest) spelled argument selected valuation here = record {
     lies = λ kind is element has.
-        (in_kind state valuation all m First (more_of-Expr expr rest) spelled).lies kind is element
+        (in_kind state all valuation m First (more_of-Expr expr rest) spelled).lies kind is element
         ((selected.elements valuation here element).0 has);
   }
 
@@ -235,9 +243,11 @@ module _ (state : StateView) (all : AreWritable state) where
       → option_and_then (prefixed p.Coalesce) (kind_in (scope_of state) operand) ≡ Some kind → (valuation : Valuation) (element : Element)
       → Assumes state.assumed valuation → Has value valuation element → IsSpaceOf kind element.space
   coalesce_kind m operand spelled argument value selected together kind is valuation element here has =
-      (of_word p.Coalesce argument.params (λ v x. Has argument v x) valuation (kind_in (scope_of state) operand)
-      (operand_kind m operand spelled argument selected valuation here)).lies kind is element
-      ((together.elements valuation here element).0 has)
+      (of_word p.Coalesce argument.params (AtAssumed state (λ v x. Has argument v x)) valuation (kind_in (scope_of state) operand)
+      (λ v. record {
+        lies = λ k same x there. (operand_kind m operand spelled argument selected v there.0).lies k same x there.1;
+      })).lies kind is element
+      (here, (together.elements valuation here element).0 has)
 
   -- each piece of a gist has an element that the left value has at some assumed valuation
   gist_kind : (m : Count) (first : Row_of-Expr m) (context : Expr) → All IsSpelled (literals_in first) → (left right value : KeptValue)
@@ -279,10 +289,10 @@ module _ (state : StateView) (all : AreWritable state) where
       coalesce_kind _ operand spelled content.0 value content.1 content.2 kind is valuation element here has
   content_kind part (Row' s first t links) value spelled content kind is valuation element here has =
       row_kind _ first _ links value spelled (IsSelectedAt state part (Row' s first t links) value) content kind is valuation element has
-      (λ selected. (selected_kind state valuation all part (Row' s first t links) spelled).lies kind is element
+      (λ selected. (selected_kind state all valuation part (Row' s first t links) spelled).lies kind is element
       ((selected.elements valuation here element).0 has))
   content_kind part expr value spelled content kind is valuation element here has =
-      (selected_kind state valuation all part expr spelled).lies kind is element ((content.elements valuation here element).0 has)
+      (selected_kind state all valuation part expr spelled).lies kind is element ((content.elements valuation here element).0 has)
 
 -- ---- what is of a kind can be written
 pub of_kind_uniform : (value : KeptValue) (kind : ValueKind) → IsOfKind kind value → IsUniform value

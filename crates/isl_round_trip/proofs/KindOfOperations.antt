@@ -102,6 +102,23 @@ kept_kind Map kind space lies is = is
 kept_kind Pair kind space lies is = none_some kind is
 kept_kind a kind space lies is = absurd lies
 
+-- `aff` does, too
+hull_kind : (a kind : ValueKind) (space : SpaceForm) → IsSpaceOf a space → prefixed p.AffineHull a ≡ Some kind → Some a ≡ Some kind
+hull_kind Set kind space lies is = is
+hull_kind Map kind space lies is = is
+hull_kind Pair kind space lies is = none_some kind is
+hull_kind a kind space lies is = absurd lies
+
+-- that a space is of a kind is so where it can't be otherwise
+kind_stable : (kind : ValueKind) (space : SpaceForm) → ¬ ¬ IsSpaceOf kind space → IsSpaceOf kind space
+kind_stable Set (set_of form) stays = tt
+kind_stable Set (map_of from to) stays = absurd (stays (λ h. h))
+kind_stable Map (set_of form) stays = absurd (stays (λ h. h))
+kind_stable Map (map_of from to) stays = tt
+kind_stable Pair (set_of form) stays = absurd (stays (λ h. h))
+kind_stable Pair (map_of from to) stays = tt
+kind_stable kind space stays = absurd (stays (λ h. h))
+
 -- `%` keeps that of the left one
 gist_left : (a c kind : ValueKind) (space : SpaceForm) → IsSpaceOf a space → joined b.Gist a c ≡ Some kind → Some a ≡ Some kind
 gist_left Set Set kind space lies is = is
@@ -130,7 +147,10 @@ module _ (Operand : Element → Type 0) (a : ValueKind) (all : (element : Elemen
   ]
 
 module _ (names : List Name) (Family : Valuation → Element → Type 0) (valuation : Valuation) (a : ValueKind)
-    (all : (element : Element) → Family valuation element → IsSpaceOf a element.space) where
+    (each : (v : Valuation) (element : Element) → Family v element → IsSpaceOf a element.space) where
+  all : (element : Element) → Family valuation element → IsSpaceOf a element.space
+  all = each valuation
+
   set_word : (line : ValueKind → Option ValueKind) (kind : ValueKind) (x : Point) → HasPoint (Family valuation) x → line a ≡ Some kind
       → line Set ≡ Some kind
   set_word = set_line (Family valuation) a all
@@ -159,6 +179,9 @@ module _ (names : List Name) (Family : Valuation → Element → Type 0) (valuat
       made_in Set kind element _ (set_word (prefixed p.LexMax) kind h.0 h.1.0 is) h.2 tt
   word_kind p.LexMax kind element is (inr h) =
       made_in Map kind element _ (map_word (prefixed p.LexMax) refl kind h.0 h.1 h.2.0 is) h.3 tt
+  word_kind p.AffineHull kind element is h =
+      kind_stable kind element.space (λ stays. h.live (λ v x has same. stays (subst (IsSpaceOf kind) same
+      (let lies = each v x has in as_kind x.space a kind (hull_kind a kind x.space lies is) lies))))
   word_kind p.Coalesce kind element is h =
       let lies = all element h in as_kind element.space a kind (kept_kind a kind element.space lies is) lies
   word_kind word kind element is h = absurd h
@@ -251,10 +274,11 @@ of_item Operand (Some a) before = record {
 }
 
 pub of_word : (word : Prefix) (names : List Name) (Family : Valuation → Element → Type 0) (valuation : Valuation) (o : Option ValueKind)
-    → AreOfKind (Family valuation) o → AreOfKind (λ x. WordHas word names Family valuation x) (option_and_then (prefixed word) o)
+    → ((v : Valuation) → AreOfKind (Family v) o)
+    → AreOfKind (λ x. WordHas word names Family valuation x) (option_and_then (prefixed word) o)
 of_word word names Family valuation None before = no_kind (λ x. WordHas word names Family valuation x)
 of_word word names Family valuation (Some a) before = record {
-  lies = λ kind is element has. word_kind names Family valuation a (before.lies a refl) word kind element is has;
+  lies = λ kind is element has. word_kind names Family valuation a (λ v. (before v).lies a refl) word kind element is has;
 }
 
 of_two : (line : ValueKind → ValueKind → Option ValueKind) (Made : Element → Type 0) (o p : Option ValueKind)

@@ -17,7 +17,7 @@ abbrev pub keywords : List (Text × Role)
 keywords =
     (codes "print", role.Print) ∷ (codes "any", role.Any) ∷ (codes "last", role.Last) ∷ (codes "before", role.Before)
     ∷ (codes "under", role.Under) ∷ (codes "cross", role.Cross) ∷ (codes "assume", role.Assume) ∷ (codes "pip", role.Reserved)
-    ∷ (codes "aff", role.Reserved) ∷ []
+    ∷ []
 
 unfoldable pub keyword_of : Text → Option Role
 keyword_of word = look_up keywords word

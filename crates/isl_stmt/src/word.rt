@@ -30,7 +30,7 @@ pub enum Role {
     Reserved,
 }
 
-const KEYWORDS: [(&[u8], Role); 9] = [
+const KEYWORDS: [(&[u8], Role); 8] = [
     (b"print", Role::Print),
     (b"any", Role::Any),
     (b"last", Role::Last),
@@ -39,7 +39,6 @@ const KEYWORDS: [(&[u8], Role); 9] = [
     (b"cross", Role::Cross),
     (b"assume", Role::Assume),
     (b"pip", Role::Reserved),
-    (b"aff", Role::Reserved),
 ];
 
 #[tactic(auto, unfolding(crate::specs::Word::keyword_of))]

@@ -16,7 +16,8 @@ spellings =
     (codes "dom", p.Domain) ∷ (codes "domain", p.Domain) ∷ (codes "ran", p.Range) ∷ (codes "range", p.Range) ∷ (codes "deltas", p.Deltas)
     ∷ (codes "identity", p.Identity) ∷ (codes "wrap", p.Wrap) ∷ (codes "unwrap", p.Unwrap) ∷ (codes "zip", p.Zip)
     ∷ (codes "domain_map", p.DomainMap) ∷ (codes "range_map", p.RangeMap) ∷ (codes "lexmin", p.LexMin) ∷ (codes "lexmax", p.LexMax)
-    ∷ (codes "coalesce", p.Coalesce) ∷ (codes "sample", p.Sample) ∷ (codes "scan", p.Scan) ∷ (codes "codegen", p.Codegen) ∷ []
+    ∷ (codes "aff", p.AffineHull) ∷ (codes "coalesce", p.Coalesce) ∷ (codes "sample", p.Sample) ∷ (codes "scan", p.Scan)
+    ∷ (codes "codegen", p.Codegen) ∷ []
 
 -- what a table of texts has for a text
 abbrev pub look_up : {A : Type 0} → List (List ℕ × A) → List ℕ → Option A
@@ -42,7 +43,8 @@ moving set map works = record {
   works = works;
 }
 
--- it makes a value of the kind of its operand: it looks for something at each valuation, or it chooses, or it puts pieces together
+-- it makes a value of the kind of its operand: it looks at what this has at assumed valuations alone, or it chooses, or it puts pieces
+-- together
 abbrev pub working : Bool → Bool → Bool → Word
 working looks chooses joins = record {
   of_set = Some Set;
@@ -80,6 +82,7 @@ word_row p.DomainMap = moving None (Some Map) false
 word_row p.RangeMap = moving None (Some Map) false
 word_row p.LexMin = working true false false
 word_row p.LexMax = working true false false
+word_row p.AffineHull = working true false false
 word_row p.Sample = working false true false
 word_row p.Coalesce = working false false true
 word_row p.Scan = asking Elements Listing

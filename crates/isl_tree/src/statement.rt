@@ -109,6 +109,7 @@ pub enum Prefix {
     RangeMap,
     LexMin,
     LexMax,
+    AffineHull,
     Coalesce,
     Sample,
     Scan,

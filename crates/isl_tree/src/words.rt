@@ -27,7 +27,7 @@ pub struct Word {
     pub asks: Question,
     /// It moves columns, doubles them or takes them out.
     pub moves: bool,
-    /// It looks for something at each valuation.
+    /// It looks at what its operand has at assumed valuations alone: for something at each, or for what holds at all of them.
     pub looks: bool,
     /// It chooses what it makes.
     pub chooses: bool,
@@ -37,7 +37,7 @@ pub struct Word {
     pub works: bool,
 }
 
-const SPELLINGS: [(&[u8], Prefix); 17] = [
+const SPELLINGS: [(&[u8], Prefix); 18] = [
     (b"dom", Prefix::Domain),
     (b"domain", Prefix::Domain),
     (b"ran", Prefix::Range),
@@ -51,6 +51,7 @@ const SPELLINGS: [(&[u8], Prefix); 17] = [
     (b"range_map", Prefix::RangeMap),
     (b"lexmin", Prefix::LexMin),
     (b"lexmax", Prefix::LexMax),
+    (b"aff", Prefix::AffineHull),
     (b"coalesce", Prefix::Coalesce),
     (b"sample", Prefix::Sample),
     (b"scan", Prefix::Scan),
@@ -103,7 +104,7 @@ pub fn row_of(word: Prefix) -> Word
             ..MOVING
         },
         Prefix::Zip | Prefix::DomainMap | Prefix::RangeMap => MOVING,
-        Prefix::LexMin | Prefix::LexMax => Word {
+        Prefix::LexMin | Prefix::LexMax | Prefix::AffineHull => Word {
             looks: true,
             ..WORKING
         },

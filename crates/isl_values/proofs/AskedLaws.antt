@@ -1,7 +1,7 @@
 -- What words are asked of.
 use Rattle.std.proofs.Common.{◌≡◌, ◌∙◌, ◌↔◌, ℕ, Bool, true, false, List, [], sym, ap, subst, inl}
 use Rattle.std.specs.Prelude.{◌||◌, MatchResult, Result, unsigned_abs}
-use Rattle.std.proofs.lemmas.Bool.{or_parts}
+use Rattle.std.proofs.lemmas.Bool.{false≢true, or_parts}
 use Rattle.isl_meter.specs.Gauge.{Gauge, limit_of, IsCharged}
 use Rattle.isl_space.specs.Element.{Element}
 use Rattle.isl_space.specs.Name.{Name}
@@ -30,9 +30,9 @@ use Rattle.isl_values.specs.Three.{IsAsked}
 use Rattle.isl_outcome.proofs.FirstLaws.{EndAlike, goes_alike, operation_alike}
 use Rattle.isl_outcome.proofs.FirstLaws.{operation_cut}
 use Rattle.isl_values.proofs.LiveEndsLaws.{forms_live, live_answer}
-use Rattle.isl_values.proofs.SameLaws.{Same, has_first, itself, same_trans, same_word}
+use Rattle.isl_values.proofs.SameLaws.{AreAlike, Same, has_first, itself, same_trans, same_word}
 use Rattle.isl_values.proofs.ValueLaws.{made_before, match_map, paid_after, unworked_after}
-use Rattle.isl_values.proofs.UnderLaws.{has_same, under_here}
+use Rattle.isl_values.proofs.UnderLaws.{has_same, under_alike, under_here, under_params}
 
 module _ (state : StateView) (operand asked : KeptValue) (live : IsLiveUnder state.assumed operand) where
   abbrev There : Valuation → Element → Type 0
@@ -45,11 +45,7 @@ module _ (state : StateView) (operand asked : KeptValue) (live : IsLiveUnder sta
   asked_here false is v here = subst (λ (u : KeptValue). Same (Has u v) (Has operand v)) (sym is) (itself (Has operand v))
 
   pub asked_params : (b : Bool) → IsAskedOf state b operand asked → asked.params ≡ operand.params
-  asked_params true is = by state.assumed is
-    where
-      by : (assumed : Assumed) → IsUnderOf assumed operand.params operand asked → asked.params ≡ operand.params
-      by Nothing same = ap (λ (u : KeptValue). u.params) same
-      by (Where region) over = over.params
+  asked_params true is = under_params state.assumed operand asked is
   asked_params false is = ap (λ (u : KeptValue). u.params) is
 
   -- the same at an assumed valuation
@@ -58,6 +54,14 @@ module _ (state : StateView) (operand asked : KeptValue) (live : IsLiveUnder sta
     (λ h. (here, (under_here state.assumed operand.params operand asked is v here x).0 h)),
     (λ h. (under_here state.assumed operand.params operand asked is v here x).1 h.1),
   )
+
+  -- the same with assumed valuations alone, whatever the word is asked of
+  there_here : (v : Valuation) → Assumes state.assumed v → Same (Has operand v) (There v)
+  there_here v here x = ((λ h. (here, h)), (λ h. h.1))
+
+  asked_alike_there : (b : Bool) → IsAskedOf state b operand asked → b ≡ true → AreAlike operand.params (Has asked) There
+  asked_alike_there true is which = under_alike state.assumed operand asked is
+  asked_alike_there false is which = absurd (false≢true which)
 
   -- where the operand is asked of has an element, it has what the other has at some assumed valuation
   at_some : IsUnderOf state.assumed operand.params operand asked → (v : Valuation) (x : Element) → Has asked v x
@@ -111,6 +115,7 @@ module _ (state : StateView) (operand asked : KeptValue) (live : IsLiveUnder sta
       → FormsWide (WordForms word) (Has asked) ↔ FormsWide (WordForms word) There
   asked_forms p.LexMin is = ((λ h. absurd h.3), (λ h. absurd h.3))
   asked_forms p.LexMax is = ((λ h. absurd h.3), (λ h. absurd h.3))
+  asked_forms p.AffineHull is = ((λ h. absurd h.3), (λ h. absurd h.3))
   asked_forms p.Domain is = forms_asked (WordForms p.Domain) is
   asked_forms p.Range is = forms_asked (WordForms p.Range) is
   asked_forms p.Deltas is = forms_asked (WordForms p.Deltas) is
@@ -138,7 +143,7 @@ module _ (state : StateView) (operand asked : KeptValue) (live : IsLiveUnder sta
   pub worded_value : (word : Prefix) (limit : ℕ) (part : KeptValue) → IsAsked state word limit operand asked
       → IsValueOf state.assumed (IsLiveOf state.assumed (IsWordOf word asked)) asked.params (WordHas word asked.params (Has asked)) limit
       (HasNoDefinitions asked × (word_works word ≡ false)) part
-      → IsValueOf state.assumed (IsWordedOf state word operand) operand.params (WordHas word operand.params (Has operand)) limit
+      → IsValueOf state.assumed (IsWordedOf state word operand) operand.params (WordHas word operand.params There) limit
       (HasNoDefinitions operand × (word_works word ≡ false)) part
   worded_value word limit part is made =
       let names = asked_params (looks word) is.of in record {
@@ -146,10 +151,12 @@ module _ (state : StateView) (operand asked : KeptValue) (live : IsLiveUnder sta
         kept = made.kept;
         live = made.live;
         params = made.params ∙ names;
-        elements = λ v here. same_trans (Has part v) (WordHas word asked.params (Has asked) v) (WordHas word operand.params (Has operand) v)
+        elements = λ v here. same_trans (Has part v) (WordHas word asked.params (Has asked) v) (WordHas word operand.params There v)
             (made.elements v here)
-            (subst (λ (ns : List Name). Same (WordHas word asked.params (Has asked) v) (WordHas word ns (Has operand) v)) names
-            (same_word word asked.params (Has asked) (Has operand) v (asked_here (looks word) is.of v here)));
+            (subst (λ (ns : List Name). Same (WordHas word ns (Has asked) v) (WordHas word operand.params There v)) (sym names)
+            (same_word word operand.params (Has asked) There v
+            (same_trans (Has asked v) (Has operand v) (There v) (asked_here (looks word) is.of v here) (there_here v here))
+            (asked_alike_there (looks word) is.of)));
         numbers = made.numbers;
         definitions = λ plain. made.definitions (is.definitions plain.0, plain.1);
       }
@@ -177,7 +184,7 @@ module _ (state : StateView) (operand asked : KeptValue) (live : IsLiveUnder sta
           → MatchResult result (λ a. IsLivePart state.assumed made (of a) × IsCharged h k) (IsWhyUnmade true CutAlone h k)
           → (narrows state.assumed ≡ false → MatchResult result (λ _. k ≡ h) (λ _. ⊥))
           → MatchResult result
-          (λ a. IsValueOf state.assumed (IsWordedOf state word operand) operand.params (WordHas word operand.params (Has operand))
+          (λ a. IsValueOf state.assumed (IsWordedOf state word operand) operand.params (WordHas word operand.params There)
           (unsigned_abs (limit_of g)) (HasNoDefinitions operand × (word_works word ≡ false)) (of a) × IsPaid Works g k)
           (IsWhyUnworked Works (WordEnds word There) g k)
       worded_answer of result part free =

@@ -19,5 +19,7 @@ pub mod UnderLaws
 pub mod FlatLaws
 pub mod AlikeLaws
 pub mod AskedLaws
+pub mod ElementLaws
+pub mod HullLaws
 pub mod WholeLaws
 pub mod WordLaws

@@ -16,7 +16,7 @@ use Rattle.isl_operators.specs.Flow.{AnyHas}
 use Rattle.isl_operators.specs.Operations.{OperatorHas, WordHas}
 use Rattle.isl_kinds.specs.Typed.{declared_of}
 use Rattle.isl_state.specs.declared.list.ListPart.{ListPart}
-use Rattle.isl_state.specs.State.{StateView, scope_of}
+use Rattle.isl_state.specs.State.{AtAssumed, StateView, scope_of}
 use Rattle.isl_values.specs.Worked.{PartHas, part_of_list, part_taken}
 use Rattle.isl_values.specs.Selection.{PostfixHas, Selects, SelectsAt, SelectsPastLinks, SelectsPastPostfixes, RowSelects, PostSelects}
 use Rattle.isl_values.proofs.SameLaws.{Elements, Same, itself, turned, same_operator, same_application}
@@ -36,10 +36,10 @@ module _ (state : StateView) (valuation : Valuation) where
   -- ---- a word before an operand
   pub selects_of-Prefix : (part : ListPart) (word : Word) (operand : Expr)
       → Same (λ x. SelectsAt state part (Prefix word operand) valuation x)
-      (WordHas word (declared_of (scope_of state) operand) (λ v x. Selects state operand v x) valuation)
+      (WordHas word (declared_of (scope_of state) operand) (AtAssumed state (λ v x. Selects state operand v x)) valuation)
   unfolding hidden-the_row-Expr-0 denote.Hole.Carrier.hidden
   selects_of-Prefix part word operand =
-      itself (WordHas word (declared_of (scope_of state) operand) (λ v x. Selects state operand v x) valuation)
+      itself (WordHas word (declared_of (scope_of state) operand) (AtAssumed state (λ v x. Selects state operand v x)) valuation)
 
   -- ---- source, sink and schedule
   pub selects_of-Any : (part : ListPart) (source sink schedule : Expr)

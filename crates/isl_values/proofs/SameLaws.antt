@@ -1,8 +1,10 @@
 -- What operations make of the same elements is the same.
-use Rattle.std.proofs.Common.{◌↔◌, inl, inr, List}
+use Rattle.std.proofs.Common.{◌≡◌, ◌↔◌, inl, inr, true, List, ℤ, refl, subst}
+use Rattle.std.specs.Prelude.{pos, ◌+ℤ◌, ◌++◌}
+use Rattle.isl_math.specs.Dot.{dot}
 use Rattle.isl_space.specs.Element.{Element}
 use Rattle.isl_space.specs.Name.{Name}
-use Rattle.isl_space.specs.Valuation.{Valuation}
+use Rattle.isl_space.specs.Valuation.{Valuation, values_of}
 use Rattle.isl_tree.specs.declared.statement.Binary.{Binary}
 use Rattle.isl_tree.specs.declared.statement.Binary.TheVariants as b
 use Rattle.isl_tree.specs.declared.statement.Prefix.{Prefix}
@@ -11,6 +13,7 @@ use Rattle.isl_operators.specs.Point.{Point, HasPoint, Relates, set_element, map
 use Rattle.isl_operators.specs.Maps.{JoinHas}
 use Rattle.isl_operators.specs.Extremes.{FirstHas, HasFirst, IsFirstImage, IsFirstOf}
 use Rattle.isl_operators.specs.Flow.{AnyHas, IsOverwritten, Precedes}
+use Rattle.isl_operators.specs.Hull.{HullHas}
 use Rattle.isl_operators.specs.Orders.{ComesAfter, ComesBefore, IsDownTo, IsUpTo}
 use Rattle.isl_operators.specs.Operations.{IsIn, OperatorHas, OrderedHas, WordHas, WordMisses, ApplicationHas}
 use Rattle.isl_assumed.specs.declared.assumed.Assumed.{Assumed}
@@ -18,7 +21,7 @@ use Rattle.isl_assumed.specs.Assumed.{Assumes}
 use Rattle.isl_state.specs.State.{StateView, AtAssumed}
 use Rattle.isl_state.specs.declared.list.ListPart.{ListPart}
 use Rattle.isl_state.specs.declared.list.ListPart.TheVariants.{First, Second}
-use Rattle.isl_values.specs.Worked.{Dependence, PartHas}
+use Rattle.isl_values.specs.Worked.{looks, Dependence, PartHas}
 
 -- at one valuation
 abbrev pub Elements : Type 1
@@ -54,6 +57,31 @@ at_assumed state P Q same v x = ((λ h. (h.0, (same v h.0 x).0 h.1)), (λ h. (h.
 
 pub turned_same : (P Q : Selection) → AreSame P Q → AreSame Q P
 turned_same P Q same v = turned (P v) (Q v) (same v)
+
+-- what the first has at a valuation, the second has where these names have the same numbers
+abbrev pub AreAmong : List Name → Selection → Selection → Type 0
+AreAmong names P Q = (v : Valuation) (x : Element) → P v x → (w : Valuation) × (values_of names w ≡ values_of names v) × Q w x
+
+pub same_among : (names : List Name) (P Q : Selection) → AreSame P Q → AreAmong names P Q
+same_among names P Q same v x has = (v, refl, (same v x).0 has)
+
+-- both ways
+abbrev pub AreAlike : List Name → Selection → Selection → Type 0
+AreAlike names P Q = AreAmong names P Q × AreAmong names Q P
+
+pub same_alike : (names : List Name) (P Q : Selection) → AreSame P Q → AreAlike names P Q
+same_alike names P Q same = (same_among names P Q same, same_among names Q P (turned_same P Q same))
+
+-- a form over names and coordinates that is 0 at all of the second is 0 at all of the first
+pub hull_has : (names : List Name) (P Q : Selection) → AreAmong names P Q → (v : Valuation) (x : Element) → HullHas names P v x
+    → HullHas names Q v x
+hull_has names P Q among v x h = record {
+  numbers = h.numbers;
+  live = λ none. h.live (λ w y has is. let there = among w y has in none there.0 y there.2 is);
+  zero = λ coefs constant columns vanishes. h.zero coefs constant columns (λ w y has is.
+      let there = among w y has in
+      subst (λ (numbers : List ℤ). dot coefs (numbers ++ y.coordinates) +ℤ constant ≡ pos 0) there.1 (vanishes there.0 y there.2 is));
+}
 
 -- ---- one operand
 module _ (P Q : Elements) (same : Same P Q) where
@@ -123,23 +151,25 @@ module _ (P Q R S : Elements) (map : Same P Q) (argument : Same R S) where
   application_has x (inl h) = inl (h.0, h.1, pair_in P Q map h.0 h.1 h.2, point_in R S argument h.0 h.3, h.4)
   application_has x (inr h) = inr (join_has R S P Q argument map x h)
 
--- a word, of the elements at a valuation
+-- a word, of the elements at a valuation, or of all where it looks at all
 module _ (P Q : Selection) (v : Valuation) (same : Same (P v) (Q v)) where
-  word_has : (word : Prefix) (names : List Name) (x : Element) → WordHas word names P v x → WordHas word names Q v x
-  word_has p.Domain names x h = (h.0, h.1, pair_in (P v) (Q v) same h.0 h.1 h.2, h.3)
-  word_has p.Range names x h = (h.0, h.1, pair_in (P v) (Q v) same h.0 h.1 h.2, h.3)
-  word_has p.Deltas names x h = (h.0, h.1, pair_in (P v) (Q v) same h.0 h.1 h.2, h.3, h.4)
-  word_has p.Identity names x h = (h.0, point_in (P v) (Q v) same h.0 h.1, h.2)
-  word_has p.Wrap names x h = (h.0, h.1, pair_in (P v) (Q v) same h.0 h.1 h.2, h.3)
-  word_has p.Unwrap names x h = (h.0, h.1, h.2, h.3, point_in (P v) (Q v) same (paired h.0 h.1) h.4, h.5)
-  word_has p.Zip names x h =
+  word_has : (word : Prefix) (names : List Name) → (looks word ≡ true → AreAmong names P Q) → (x : Element) → WordHas word names P v x
+      → WordHas word names Q v x
+  word_has p.Domain names all x h = (h.0, h.1, pair_in (P v) (Q v) same h.0 h.1 h.2, h.3)
+  word_has p.Range names all x h = (h.0, h.1, pair_in (P v) (Q v) same h.0 h.1 h.2, h.3)
+  word_has p.Deltas names all x h = (h.0, h.1, pair_in (P v) (Q v) same h.0 h.1 h.2, h.3, h.4)
+  word_has p.Identity names all x h = (h.0, point_in (P v) (Q v) same h.0 h.1, h.2)
+  word_has p.Wrap names all x h = (h.0, h.1, pair_in (P v) (Q v) same h.0 h.1 h.2, h.3)
+  word_has p.Unwrap names all x h = (h.0, h.1, h.2, h.3, point_in (P v) (Q v) same (paired h.0 h.1) h.4, h.5)
+  word_has p.Zip names all x h =
       (h.0, h.1, h.2, h.3, h.4, h.5, h.6, h.7, pair_in (P v) (Q v) same (paired h.0 h.1) (paired h.2 h.3) h.8, h.9)
-  word_has p.DomainMap names x h = (h.0, h.1, pair_in (P v) (Q v) same h.0 h.1 h.2, h.3)
-  word_has p.RangeMap names x h = (h.0, h.1, pair_in (P v) (Q v) same h.0 h.1 h.2, h.3)
-  word_has p.LexMin names x h = first_has (P v) (Q v) same ComesBefore x h
-  word_has p.LexMax names x h = first_has (P v) (Q v) same ComesAfter x h
-  word_has p.Coalesce names x h = (same x).0 h
-  word_has _ names x h = absurd h
+  word_has p.DomainMap names all x h = (h.0, h.1, pair_in (P v) (Q v) same h.0 h.1 h.2, h.3)
+  word_has p.RangeMap names all x h = (h.0, h.1, pair_in (P v) (Q v) same h.0 h.1 h.2, h.3)
+  word_has p.LexMin names all x h = first_has (P v) (Q v) same ComesBefore x h
+  word_has p.LexMax names all x h = first_has (P v) (Q v) same ComesAfter x h
+  word_has p.AffineHull names all x h = hull_has names P Q (all refl) v x h
+  word_has p.Coalesce names all x h = (same x).0 h
+  word_has _ names all x h = absurd h
 
 -- at every one
 module _ (P Q : Selection) (same : AreSame P Q) where
@@ -208,8 +238,11 @@ same_operator operator P Q R S left right = λ x. (
 )
 
 pub same_word : (word : Prefix) (names : List Name) (P Q : Selection) (v : Valuation) → Same (P v) (Q v)
-    → Same (WordHas word names P v) (WordHas word names Q v)
-same_word word names P Q v same = λ x. (word_has P Q v same word names x, word_has Q P v (turned (P v) (Q v) same) word names x)
+    → (looks word ≡ true → AreAlike names P Q) → Same (WordHas word names P v) (WordHas word names Q v)
+same_word word names P Q v same all = λ x. (
+  word_has P Q v same word names (λ is. (all is).0) x,
+  word_has Q P v (turned (P v) (Q v) same) word names (λ is. (all is).1) x,
+)
 
 pub same_misses : (word : Prefix) (P Q : Selection) → AreSame P Q → WordMisses word P ↔ WordMisses word Q
 same_misses word P Q same = (misses P Q same word, misses Q P (turned_same P Q same) word)

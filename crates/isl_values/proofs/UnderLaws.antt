@@ -1,5 +1,5 @@
 -- Operands at assumed valuations alone.
-use Rattle.std.proofs.Common.{◌≡◌, ◌∙◌, ◌↔◌, ◌++◌, ℕ, true, false, List, [], All, Contains, refl, sym, subst, inl, inr, ◌⊎◌}
+use Rattle.std.proofs.Common.{◌≡◌, ◌∙◌, ◌↔◌, ◌++◌, ℕ, true, false, List, [], All, Contains, refl, sym, ap, subst, inl, inr, ◌⊎◌}
 use Rattle.std.proofs.Common.{◌<◌, get_or, length}
 use Rattle.std.specs.Prelude.{IfOk, MatchResult, Result, Ok, Err, unsigned_abs}
 use Rattle.std.proofs.lemmas.Bool.{false≢true}
@@ -33,7 +33,7 @@ use Rattle.isl_state.specs.State.{StateView, HasNumbersUpTo}
 use Rattle.isl_values.specs.Ends.{CutAlone, CutUnder, OperationEnds}
 use Rattle.isl_values.specs.Ends as ends
 use Rattle.isl_values.specs.Made.{refusal_of_fault, IsPaid, IsWhyUnmade, IsWhyUnworked}
-use Rattle.isl_values.proofs.SameLaws.{Same, itself}
+use Rattle.isl_values.proofs.SameLaws.{AreAlike, AreAmong, Same, itself}
 use Rattle.isl_values.proofs.OutcomeLaws.{answered_made, IsAnswer}
 use Rattle.isl_values.proofs.ValueLaws.{match_map, ok_map, paid_same}
 
@@ -65,6 +65,24 @@ under_here Nothing names value under is v here x =
 under_here (Where region) names value under is v here x = (
   (λ h. ((is.elements v x).0 h).0),
   (λ h. (is.elements v x).1 (h, some_itself (Where region) names v here)),
+)
+
+pub under_params : (assumed : Assumed) (value under : KeptValue) → IsUnderOf assumed value.params value under → under.params ≡ value.params
+under_params Nothing value under is = ap (λ (u : KeptValue). u.params) is
+under_params (Where region) value under is = is.params
+
+-- it has an element just where the value has it at an assumed valuation with the same numbers
+under_among : (assumed : Assumed) (value under : KeptValue) → IsUnderOf assumed value.params value under
+    → AreAmong value.params (Has under) (λ v x. Assumes assumed v × Has value v x)
+under_among Nothing value under is v x has = (v, refl, (tt, subst (λ (u : KeptValue). Has u v x) is has))
+under_among (Where region) value under is v x has =
+    let both = (is.elements v x).0 has in (both.1.0, both.1.1, (both.1.2, has_same value both.1.0 v (sym both.1.1) x both.0))
+
+pub under_alike : (assumed : Assumed) (value under : KeptValue) → IsUnderOf assumed value.params value under
+    → AreAlike value.params (Has under) (λ v x. Assumes assumed v × Has value v x)
+under_alike assumed value under is = (
+  under_among assumed value under is,
+  (λ v x has. (v, refl, (under_here assumed value.params value under is v has.0 x).1 has.1)),
 )
 
 -- ---- what calls leave

@@ -23,7 +23,7 @@ use Rattle.isl_values.specs.Three.{IsValueAt}
 use Rattle.isl_values.specs.Made.{is_foreign, uses_units, IsSoundExpr, IsValueOf, IsPaid, IsWhyUnworked}
 use Rattle.isl_values.proofs.PartLaws.{sound_argument}
 use Rattle.isl_values.proofs.PartLaws.{word_quiet}
-use Rattle.isl_values.proofs.SameLaws.{at_assumed, Same, turned, same_trans, same_word}
+use Rattle.isl_values.proofs.SameLaws.{at_assumed, AreSame, Same, Selection, turned, same_alike, same_trans, same_word}
 use Rattle.isl_values.proofs.RowLaws.{selects_of-Prefix}
 use Rattle.isl_outcome.proofs.FirstLaws.{EndAlike, goes_alike, goes_both, turned_alike}
 use Rattle.isl_values.proofs.EndsLaws.{ends_of-Prefix}
@@ -56,8 +56,11 @@ module _ (state : StateView) (expr : Expr) (word : Word) (operand : Expr) (is : 
   abbrev pub FormedEnds : KeptValue → End → Type 0
   FormedEnds value = WordEnds word (AtAssumed state (Has value))
 
+  abbrev Selected : Selection
+  Selected = AtAssumed state (λ v x. Selects state operand v x)
+
   abbrev SelectedEnds : End → Type 0
-  SelectedEnds = WordEnds word (AtAssumed state (λ v x. Selects state operand v x))
+  SelectedEnds = WordEnds word Selected
 
   word_ends : EndAlike (FirstEnds (Ends state operand) SelectedEnds) (Ends state expr)
   word_ends =
@@ -71,8 +74,15 @@ module _ (state : StateView) (expr : Expr) (word : Word) (operand : Expr) (is : 
       (λ end ends. (word_ends end).0 (inl ends)) why
 
   module _ (g h k : Gauge) (one : KeptValue) (own : IsMade state operand g h one) where
+    abbrev Own : Selection
+    Own = AtAssumed state (Has one)
+
+    own_same : AreSame Own Selected
+    own_same = at_assumed state (Has one) (λ v x. Selects state operand v x) own.0.elements
+
     pub word_made : (part : ListPart) → is_foreign (prefix word) ≡ false → (made : KeptValue)
-        → IsValueOf state.assumed (IsWordedOf state word one) one.params (WordHas word one.params (Has one)) (unsigned_abs (limit_of h))
+        → IsValueOf state.assumed (IsWordedOf state word one) one.params (WordHas word one.params (AtAssumed state (Has one)))
+        (unsigned_abs (limit_of h))
         (HasNoDefinitions one × (word_works word ≡ false)) made
         × IsPaid (uses_units state.assumed (prefix word)) h k
         → IsMadeAt state part expr g k made
@@ -86,14 +96,13 @@ module _ (state : StateView) (expr : Expr) (word : Word) (operand : Expr) (is : 
                 kept = all.0.kept;
                 live = all.0.live;
                 params = all.0.params ∙ own.0.params ∙ sym (declared_of-Prefix (scope_of state) word operand);
-                elements = λ v here. same_trans (Has made v) (WordHas word one.params (Has one) v)
-                    (SelectsAt state part (Prefix word operand) v)
+                elements = λ v here. same_trans (Has made v) (WordHas word one.params Own v) (SelectsAt state part (Prefix word operand) v)
                     (all.0.elements v here)
-                    (same_trans (WordHas word one.params (Has one) v) (WordHas word names (Selects state operand) v)
+                    (same_trans (WordHas word one.params Own v) (WordHas word names Selected v)
                     (SelectsAt state part (Prefix word operand) v)
-                    (subst (λ (ns : List Name). Same (WordHas word one.params (Has one) v) (WordHas word ns (Selects state operand) v))
-                    own.0.params (same_word word one.params (Has one) (Selects state operand) v (own.0.elements v here)))
-                    (turned (SelectsAt state part (Prefix word operand) v) (WordHas word names (Selects state operand) v)
+                    (subst (λ (ns : List Name). Same (WordHas word one.params Own v) (WordHas word ns Selected v)) own.0.params
+                    (same_word word one.params Own Selected v (own_same v) (λ _. same_alike one.params Own Selected own_same)))
+                    (turned (SelectsAt state part (Prefix word operand) v) (WordHas word names Selected v)
                     (selects_of-Prefix state v part word operand)));
                 numbers = all.0.numbers;
                 definitions = λ none.
@@ -105,9 +114,7 @@ module _ (state : StateView) (expr : Expr) (word : Word) (operand : Expr) (is : 
 
     -- the word ends for the value as it does for what is selected
     formed_alike : EndAlike (FormedEnds one) SelectedEnds
-    formed_alike =
-        word_alike word (AtAssumed state (Has one)) (AtAssumed state (λ v x. Selects state operand v x))
-        (at_assumed state (Has one) (λ v x. Selects state operand v x) own.0.elements)
+    formed_alike = word_alike word Own Selected own_same
 
     pub word_failed : (refusal : Refusal) → GoesOn (Ends state operand)
         → IsWhyUnworked (uses_units state.assumed (prefix word)) (FormedEnds one) h k refusal

@@ -64,6 +64,12 @@ pub worked_of-Prefix : (state : StateView) (part : ListPart) (word : Word) (oper
 unfolding hidden-the_row-Expr-0 denote.Hole.Carrier.hidden
 worked_of-Prefix state part word operand argument value one is made = (argument, one, is, made)
 
+pub worked_in-Prefix : (state : StateView) (part : ListPart) (word : Word) (operand : Expr) (value : KeptValue)
+    → IsWorkedAt state part (Prefix word operand) value
+    → (argument : KeptValue) × IsWorked state operand argument × (is_operation_word word ≡ true) × IsWordedOf state word argument value
+unfolding hidden-the_row-Expr-0 denote.Hole.Carrier.hidden
+worked_in-Prefix state part word operand value worked = worked
+
 -- ---- what follows an operand
 postfixes_are : (m : Count) (state : StateView) (operand value : KeptValue) (row : Row_of-Postfix m)
     → IsWorkedPost state operand (items-the_row-Postfix m row) value

@@ -1,6 +1,7 @@
 pub mod Live
 pub mod Worked
 pub mod Selection
+pub mod Hulls
 pub mod Made
 pub mod Ends
 pub mod Depth

@@ -25,7 +25,7 @@ use Rattle.isl_tree.specs.declared.statement.ValueKind.TheVariants.{List as Pair
 use Rattle.isl_state.specs.declared.list.ListPart.{ListPart}
 use Rattle.isl_state.specs.declared.list.ListPart.TheVariants.{First, Second}
 use Rattle.isl_values.specs.Live.{IsLiveUnder, IsSampleAt, IsUnderOf}
-use Rattle.isl_state.specs.State.{Kept, StateView, Moment, kept_of, scope_of, value_at, HasNumbersUpTo, Everywhere}
+use Rattle.isl_state.specs.State.{Kept, StateView, Moment, kept_of, scope_of, value_at, AtAssumed, HasNumbersUpTo, Everywhere}
 use Rattle.isl_values.specs.Worked.{IsWrittenAt, PartHas, part_taken}
 
 -- what a name stands for has the element in this part
@@ -35,15 +35,16 @@ KeptHas part (Some kept) valuation element = Has (value_at part kept) valuation 
 
 abbrev mutual
   -- This part of the expression selects the element at the valuation: a name what its kept value has, a literal what it has; a row what
-  -- its operators make of the operands, from the left; a word what it makes of its operand; `any` and `last` which accesses come before
-  -- others; an operand with what follows it what each of that makes of what is before it. What is no list is each of its parts.
+  -- its operators make of the operands, from the left; a word what it makes of what its operand selects at assumed valuations; `any` and
+  -- `last` which accesses come before others; an operand with what follows it what each of that makes of what is before it. What is no
+  -- list is each of its parts.
   pub SelectsAt : StateView → ListPart → Expr → Valuation → Element → Type 0
   SelectsAt state part (e.Name name) valuation element = KeptHas part (kept_of state name) valuation element
   SelectsAt state part (e.Literal literal) valuation element = LiteralHas literal valuation element
   SelectsAt state part (Row' s first t links) valuation element =
       SelectsPastLinks state valuation (λ x. SelectsIn state First first valuation x) links element
   SelectsAt state part (Prefix' word s operand) valuation element =
-      WordHas word (declared_in (scope_of state) operand) (λ v x. SelectsIn state First operand v x) valuation element
+      WordHas word (declared_in (scope_of state) operand) (AtAssumed state (λ v x. SelectsIn state First operand v x)) valuation element
   SelectsAt state part (Any' r source s sink t schedule) valuation element =
       AnyHas (λ x. SelectsIn state First source valuation x) (λ x. SelectsIn state First sink valuation x)
       (λ x. SelectsIn state First schedule valuation x) element

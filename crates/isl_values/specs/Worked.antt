@@ -49,11 +49,11 @@ IsMadeOfThree state Depends Source Sink Schedule value =
     (a : KeptValue) × (b : KeptValue) × (c : KeptValue) × Source a × Sink b × Schedule c
     × IsLiveOf state.assumed (IsDependenceOf Depends a b c) value
 
--- the words that look for something at each valuation, and are asked at assumed ones alone
+-- the words that look for something at each valuation, or for what holds at all, and are asked at assumed ones alone
 abbrev pub looks : Prefix → Bool
 looks word = (word_row word).looks
 
--- what a word is asked of: an operand, at assumed valuations alone where the word looks for something there
+-- what a word is asked of: an operand, at assumed valuations alone where the word looks at these
 abbrev pub IsAskedOf : StateView → Bool → KeptValue → KeptValue → Type 0
 IsAskedOf state true operand asked = IsUnderOf state.assumed operand.params operand asked
 IsAskedOf state false operand asked = asked ≡ operand

@@ -4,6 +4,7 @@
 mod answers;
 mod dependence;
 mod flat;
+pub mod laws;
 mod literal;
 mod operands;
 mod operators;

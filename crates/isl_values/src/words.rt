@@ -45,7 +45,7 @@ fn changed(
     word_answered(alloc, transformed(alloc, word, operand, meter))
 }
 
-// Whether the word looks for something at each valuation.
+// Whether the word looks at what its operand has at assumed valuations alone.
 fn looks(word: Prefix) -> bool
     ensures { result ≡ looks word }
 {
@@ -90,7 +90,7 @@ pub(crate) fn worded(
     requires fits { Fits (limit_of meter.old) state.now }
     ensures made { MatchResult result
         (λ value. IsValueOf state.now.assumed (IsWordedOf state.now word operand.value) operand.value.params
-        (WordHas word operand.value.params (Has operand.value)) (unsigned_abs (limit_of meter.old))
+        (WordHas word operand.value.params (AtAssumed state.now (Has operand.value))) (unsigned_abs (limit_of meter.old))
         (HasNoDefinitions operand.value × (word_works word ≡ false)) value.value
         × IsPaid (uses_units state.now.assumed (prefix_part word)) meter.old meter.new)
         (IsWhyUnworked (uses_units state.now.assumed (prefix_part word)) (WordEnds word (AtAssumed state.now (Has operand.value)))

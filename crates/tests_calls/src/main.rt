@@ -1,19 +1,27 @@
 //! Calls that no script of the calculator can make: systems with defined columns, what elimination leaves of them and what it costs;
-//! trees of loops, their texts, and what they execute. The cases stand in the file `stdin`, whose head says how they are written. Behind
-//! them come calls that no table can name. What differs is printed, and how many cases there were.
+//! values of sets and maps together, and operations that no word names; what words of the command line choose; trees of loops, their
+//! texts, and what they execute. The cases stand in the file `stdin`, whose head says how they are written. Behind them come calls that no
+//! table can name. What differs is printed, and how many cases there were.
 #![tactic(auto)]
 
+mod calls;
+mod choices;
 mod elimination;
 mod ends;
+mod limit;
 mod numbers;
+mod operation;
 mod params;
 mod reference;
 mod run;
+mod spaces;
 mod systems;
 mod tree;
 mod trees;
+mod values;
 mod wanted;
 
+use choices::choices_hold;
 use elimination::is_eliminated;
 use isl_meter::{Cut, Meter};
 use std::alloc::Global;
@@ -21,30 +29,19 @@ use std::io;
 use systems::{all_tell, is_met, is_negated, is_normalised};
 use tests_made::{Count, Form, field, is_case, number, rows_of};
 use trees::tree_holds;
+use values::value_holds;
 
-// The lines of a case.
-const FORMS: [(&str, Form); 21] = [
-    ("#", Form::Text),
-    ("case ", Form::Text),
-    ("do ", Form::Text),
-    ("columns ", Form::Number),
-    ("defined ", Form::Definition),
-    ("row ", Form::Row),
-    ("with-defined ", Form::Definition),
-    ("with ", Form::Row),
-    ("kept ", Form::Definition),
-    ("want ", Form::Row),
-    ("never", Form::Text),
-    ("gone ", Form::Numbers),
-    ("at ", Form::Text),
-    ("systems ", Form::Number),
-    ("units ", Form::Number),
-    ("empty-units ", Form::Number),
-    ("sample-units ", Form::Number),
-    ("params ", Form::Text),
-    ("tree ", Form::Text),
-    ("text ", Form::Text),
-    ("run", Form::Text),
+// The keys of a case's lines, and what stands behind them.
+const FORMS: [(&str, Form); 6] = [
+    ("# case do never at params tree text run", Form::Text),
+    ("piece operation before answer choose", Form::Text),
+    (
+        "columns systems units empty-units sample-units budget",
+        Form::Number,
+    ),
+    ("gone", Form::Numbers),
+    ("row with want", Form::Row),
+    ("defined with-defined kept", Form::Definition),
 ];
 
 // Whether a case of a system comes to what is wanted.
@@ -69,6 +66,10 @@ fn is_right(alloc: Global, case: &str) -> Result<bool, Cut> {
 fn holds(rt: &impl Print, alloc: Global, case: &str) -> io::Result<bool> {
     let right = if field(case, "tree ").is_some() {
         tree_holds(rt, alloc, case)?
+    } else if field(case, "answer ").is_some() {
+        value_holds(rt, alloc, case)?
+    } else if field(case, "choose ").is_some() {
+        choices_hold(rt, alloc, case)?
     } else {
         is_right(alloc, case) == Ok(true)
     };
@@ -89,6 +90,8 @@ fn calls_hold(rt: &impl Print, alloc: Global, count: &mut Count) -> io::Result<(
         ("the budget", numbers::budget_is_right()),
         ("ends over other streams", ends::streams_are_passed_on()),
         ("clean ends", ends::clean_ends_take_all(alloc)),
+        ("values of live pieces", calls::live_pieces_are_right(alloc)),
+        ("copies of pieces", calls::copies_are_right(alloc)),
     ] {
         if !right {
             println!(rt; "{name} differ")?;

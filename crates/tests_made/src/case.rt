@@ -31,18 +31,24 @@ fn has_form(text: &str, form: Form) -> bool {
     }
 }
 
+// Whether the key is one of these, which blanks part.
+fn has_key(keys: &str, key: &str) -> bool {
+    keys.split(' ').any(|one| one == key)
+}
+
 // Whether the line has one of these keys, and what belongs to it.
 fn is_line(line: &str, forms: &[(&str, Form)]) -> bool {
-    for (key, form) in forms {
-        if let Some(text) = line.strip_prefix(*key) {
+    let (key, text) = line.split_once(' ').unwrap_or((line, ""));
+    for (keys, form) in forms {
+        if has_key(keys, key) {
             return has_form(text, *form);
         }
     }
     false
 }
 
-/// Whether the text has a name and other lines, each with one of these keys and what belongs to it. Of keys that begin alike the
-/// longer one stands first.
+/// Whether the text has a name and other lines, each of which begins with one of these keys, and what belongs to it behind a blank.
+/// Keys of one form stand together, with blanks between them.
 pub fn is_case(text: &str, forms: &[(&str, Form)]) -> bool {
     field(text, "case ").is_some() && text.lines().all(|line| is_line(line, forms))
 }

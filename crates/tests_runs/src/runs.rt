@@ -6,28 +6,26 @@ use std::alloc::{AllocError, Global};
 use std::io;
 use tests_made::{bytes, field, number, numbers, words};
 
-/// What a run comes to: the status, what was written to both sinks, and whether the source has bytes left, where that is asked.
-#[derive(Debug, Drop, PartialEq)]
-struct Outcome {
-    status: usize,
-    out: String,
-    err: String,
-    unread: bool,
-}
-
 const ROOM: usize = 1 << 16;
 
-fn text(alloc: Global, bytes: &[u8]) -> Result<String, AllocError> {
-    String::from_str(alloc, str::from_utf8(bytes).unwrap_or("(no text)"))
+// What a run comes to, as text: the status, whether the source has bytes left, where that is asked, and what was written to both sinks.
+fn outcome(
+    alloc: Global,
+    status: usize,
+    unread: bool,
+    out: &[u8],
+    err: &[u8],
+) -> Result<String, AllocError> {
+    let out = str::from_utf8(out).unwrap_or("(no text)");
+    let err = str::from_utf8(err).unwrap_or("(no text)");
+    format!(in alloc; "status {status}, unread {unread}, out:\n{out}err:\n{err}")
 }
 
-fn wanted(alloc: Global, case: &str) -> Result<Outcome, AllocError> {
-    Ok(Outcome {
-        status: number(case, "status ", 0),
-        out: text(alloc, &bytes(alloc, case, "out")?)?,
-        err: text(alloc, &bytes(alloc, case, "err")?)?,
-        unread: field(case, "unread").is_some(),
-    })
+fn wanted(alloc: Global, case: &str) -> Result<String, AllocError> {
+    let out = bytes(alloc, case, "out")?;
+    let err = bytes(alloc, case, "err")?;
+    let unread = field(case, "unread").is_some();
+    outcome(alloc, number(case, "status ", 0), unread, &out, &err)
 }
 
 // The sink for answers.
@@ -37,71 +35,35 @@ fn sink(alloc: Global, case: &str, at_most: usize) -> Result<MemSink, AllocError
     MemSink::new(alloc, room, most, numbers(alloc, case, "fail-writes ")?)
 }
 
-// What the program comes to on a script, with so many bytes of a read or a write at most.
-fn found(
-    alloc: Global,
-    case: &str,
-    script: Vec<u8>,
-    at_most: usize,
-) -> Result<Outcome, AllocError> {
+// What the program comes to on the script of a case, with so many bytes of a read or a write at most.
+fn found(alloc: Global, case: &str, at_most: usize) -> Result<String, AllocError> {
     let words = words(alloc, case, "words", "iscc")?;
+    let script = bytes(alloc, case, "script")?;
     let most = number(case, "reads ", ROOM).min(at_most).max(1);
     let mut src = MemSource::new(script, most, numbers(alloc, case, "fail-reads ")?);
     let mut out = sink(alloc, case, at_most)?;
     let mut err = MemSink::new(alloc, ROOM, ROOM, numbers(alloc, case, "fail-tells ")?)?;
-    let status = run(alloc, &words, &mut src, &mut out, &mut err);
-    let is_asked = status.code() == 0 || field(case, "unread").is_some();
-    Ok(Outcome {
-        status: usize::from(status.code()),
-        out: text(alloc, out.bytes())?,
-        err: text(alloc, err.bytes())?,
-        unread: is_asked && src.read(&mut [0; 8]).is_ok_and(|n| n > 0),
-    })
+    let code = run(alloc, &words, &mut src, &mut out, &mut err).code();
+    let is_asked = code == 0 || field(case, "unread").is_some();
+    let unread = is_asked && src.read(&mut [0; 8]).is_ok_and(|n| n > 0);
+    outcome(alloc, usize::from(code), unread, out.bytes(), err.bytes())
 }
 
 // Whether a case comes to what is wanted.
 fn is_same(rt: &impl Print, alloc: Global, case: &str, at_most: usize) -> io::Result<bool> {
     let wanted = wanted(alloc, case)?;
-    let found = found(alloc, case, bytes(alloc, case, "script")?, at_most)?;
-    if found != wanted {
-        println!(rt; "{case}\n  {found:?}\n  wanted {wanted:?}")?;
-        return Ok(false);
+    let found = found(alloc, case, at_most)?;
+    let right = found.as_str() == wanted.as_str();
+    if !right {
+        println!(rt; "{case}\n  {found}")?;
     }
-    Ok(true)
-}
-
-// Whether the first bytes of a script come to a beginning of what is wanted of the whole.
-fn begins(found: &Outcome, wanted: &Outcome) -> bool {
-    let is_status = found.status == 0 || found.status == 16 || found.status == wanted.status;
-    is_status && wanted.out.as_str().starts_with(found.out.as_str())
-}
-
-// Whether each beginning of a case's script comes to a beginning of what is wanted.
-fn is_begun(rt: &impl Print, alloc: Global, case: &str) -> io::Result<bool> {
-    let wanted = wanted(alloc, case)?;
-    let mut beginning = Vec::new(alloc);
-    for byte in bytes(alloc, case, "script")? {
-        let found = found(alloc, case, beginning.clone()?, ROOM)?;
-        if !begins(&found, &wanted) {
-            println!(rt;
-                "{case}\n  {found:?}\n  of the first {} bytes",
-                beginning.len()
-            )?;
-            return Ok(false);
-        }
-        beginning.push(byte)?;
-    }
-    Ok(true)
+    Ok(right)
 }
 
 /// Whether a case comes to what is wanted, byte by byte too where no call is to fail.
 pub(crate) fn run_holds(rt: &impl Print, alloc: Global, case: &str) -> io::Result<bool> {
     let fails = field(case, "fail-").is_some() || field(case, "room ").is_some();
-    Ok(
-        is_same(rt, alloc, case, ROOM)?
-            && (fails || is_same(rt, alloc, case, 1)?)
-            && (field(case, "beginnings").is_none() || is_begun(rt, alloc, case)?),
-    )
+    Ok(is_same(rt, alloc, case, ROOM)? && (fails || is_same(rt, alloc, case, 1)?))
 }
 
 // The status of a run over ends that never fail, which end in the middle of a statement.

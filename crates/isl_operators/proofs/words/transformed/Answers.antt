@@ -1,3 +1,4 @@
+use Rattle.isl_operators.proofs.HullLaws.{has_hull}
 use Rattle.isl_operators.proofs.words.transformed.Goals as goal
 
 pub returns-in_ok-lexmin-in-LexMin-clause-written : goal.returns-in_ok-lexmin-in-LexMin-clause-written
@@ -23,3 +24,13 @@ returns-in_ok-put_together-in-Coalesce-clause-written c =
 
 pub returns-in_ok-put_together-in-Coalesce-clause-elements : goal.returns-in_ok-put_together-in-Coalesce-clause-elements
 returns-in_ok-put_together-in-Coalesce-clause-elements c = rw c.in-Coalesce.is c.in_ok-put_together-in-Coalesce.ensures.elements
+
+pub returns-in_ok-affine_hull-in-AffineHull-clause-written : goal.returns-in_ok-affine_hull-in-AffineHull-clause-written
+returns-in_ok-affine_hull-in-AffineHull-clause-written c = rw c.in-AffineHull.is c.in_ok-affine_hull-in-AffineHull.ensures.exact
+
+pub returns-in_ok-affine_hull-in-AffineHull-clause-params : goal.returns-in_ok-affine_hull-in-AffineHull-clause-params
+returns-in_ok-affine_hull-in-AffineHull-clause-params c = c.in_ok-affine_hull-in-AffineHull.ensures.exact.params
+
+pub returns-in_ok-affine_hull-in-AffineHull-clause-elements : goal.returns-in_ok-affine_hull-in-AffineHull-clause-elements
+returns-in_ok-affine_hull-in-AffineHull-clause-elements c = rw c.in-AffineHull.is
+    (λ v x. has_hull c.args.operand.now v x _ (c.in_ok-affine_hull-in-AffineHull.ensures.exact.elements v x))
