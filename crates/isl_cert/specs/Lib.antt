@@ -1,0 +1,3 @@
+pub use Rattle.isl_difference.specs.Difference
+pub use Rattle.isl_refute.specs.Refutes
+pub use Rattle.isl_refute.specs.Parts

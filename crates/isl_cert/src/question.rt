@@ -1,0 +1,100 @@
+//! Proofs that a system has no point outside others.
+
+ghost use Rattle.std.specs.Prelude.{◌≡◌, ◌↔◌, [], All, IfOk, IfSome, IsNone, IsTrue, false, true, map};
+ghost use Rattle.isl_difference.specs.Difference.{IsCovered};
+ghost use Rattle.isl_meter.specs.Gauge.{IsMetered};
+ghost use Rattle.isl_piece.specs.System.{HoldsSystem, IsSystemWithin};
+ghost use Rattle.isl_refute.specs.Refutes.{refutes, rows_of};
+
+use isl_difference::{is_covered, references};
+use isl_elim::is_empty;
+use isl_meter::{Cut, Int, Meter};
+use isl_piece::System;
+use isl_refute::{Cert, check};
+use isl_search::proof_of;
+use std::alloc::Global;
+
+// Whether some point makes the system hold and none of the outs.
+#[tactic(auto, using(std::proofs::lemmas::Grind::common_steps, isl_meter::proofs::CutLemmas::charges))]
+fn is_left(alloc: Global, system: &System, outs: &[System], meter: &mut Meter) -> Result<bool, Cut>
+    requires within { IsSystemWithin meter.old system.now }
+    requires outs { All (IsSystemWithin meter.old) outs.now }
+    requires columns { All (λ out. out.columns ≡ system.now.columns) outs.now }
+    requires plain { system.now.definitions ≡ [] }
+    requires plain_outs { All (λ out. out.definitions ≡ []) outs.now }
+    ensures exact { IfOk result (λ left. IsTrue left ↔ (¬ IsCovered system.now outs.now)) }
+    ensures covered { IfOk result (λ left. left ≡ false → IsCovered system.now outs.now) }
+    ensures meter { IsMetered meter.old meter.new result }
+{
+    let empty = is_empty(alloc, system, meter)?;
+    if empty {
+        return Ok(false);
+    }
+    let others = references(alloc, outs)?;
+    let covered = is_covered(alloc, system, others.as_slice(), meter)?;
+    Ok(!covered)
+}
+
+// Uses a unit for each node.
+#[tactic(auto, using(std::proofs::lemmas::Grind::common_steps, isl_meter::proofs::CutLemmas::charges))]
+fn pay(nodes: u64, meter: &mut Meter) -> Result<(), Cut>
+    ensures { IsMetered meter.old meter.new result }
+{
+    for _node in 0..nodes {
+        meter.unit()?;
+    }
+    Ok(())
+}
+
+// A proof, if the search finds one. Where a number of the search is too large, the meter counts it.
+#[tactic(auto, using(std::proofs::lemmas::Grind::common_steps, isl_meter::proofs::CutLemmas::charges))]
+fn searched(alloc: Global, system: &System, outs: &[System], meter: &mut Meter) -> Result<Cert, Cut>
+    ensures { IsMetered meter.old meter.new result }
+{
+    match proof_of(alloc, system, outs) {
+        Ok((cert, nodes)) => {
+            pay(nodes, meter)?;
+            Ok(cert)
+        }
+        Err(Cut::Overflow) => {
+            let _counted = Int::new(meter.limit()).add(Int::ONE, meter)?;
+            Err(Cut::NoMemory)
+        }
+        Err(_) => Err(Cut::NoMemory),
+    }
+}
+
+/// A proof that no whole point makes the system hold and none of the outs; none where some point does. What is answered was looked at
+/// by `check`. A unit is used for each node, beside those of the question and of `check`.
+///
+/// # Errors
+///
+/// `Overflow` where a number passes the limit of the meter, `Budget` where its units are used up, and `NoMemory`, also where the search
+/// ends without a proof.
+#[tactic(auto, using(std::proofs::lemmas::Grind::common_steps, isl_meter::proofs::CutLemmas::charges))]
+pub fn certify(
+    alloc: Global,
+    system: &System,
+    outs: &[System],
+    meter: &mut Meter,
+) -> Result<Option<Cert>, Cut>
+    requires within { IsSystemWithin meter.old system.now }
+    requires outs { All (IsSystemWithin meter.old) outs.now }
+    requires columns { All (λ out. out.columns ≡ system.now.columns) outs.now }
+    requires plain { system.now.definitions ≡ [] }
+    requires plain_outs { All (λ out. out.definitions ≡ []) outs.now }
+    ensures none { IfOk result (λ cert. IsNone cert ↔ (¬ IsCovered system.now outs.now)) }
+    ensures refutes { IfOk result (λ cert. IfSome cert (λ c. refutes (map rows_of outs.now) system.now.columns system.now.rows c ≡ true)) }
+    ensures meter { IsMetered meter.old meter.new result }
+{
+    let left = is_left(alloc, system, outs, meter)?;
+    if left {
+        return Ok(None);
+    }
+    let cert = searched(alloc, system, outs, meter)?;
+    let says = check(alloc, system, outs, &cert, meter)?;
+    if !says {
+        return Err(Cut::NoMemory);
+    }
+    Ok(Some(cert))
+}
