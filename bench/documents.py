@@ -2,8 +2,8 @@
 """Whether the documents speak of what is there, and how many words they have.
 
 A word that begins an item of docs/DEFINITIONS.md must stand in `specs/` of a crate that the item or its head names. A crate or a path that
-a page names must be there, and docs/EDITS.md names each edit, in the table of its place. Prints each page's words (what has a letter, so that
-numbers, signs and the bars of tables are none), their sum, and what is not there.
+a page names must be there; docs/EDITS.md names each edit of must-fail/, and the first line of each one in wrong/ says what it does. Prints
+each page's words (what has a letter, so that numbers, signs and the bars of tables are none), their sum, and what is not there.
 """
 import glob
 import os
@@ -12,8 +12,15 @@ import sys
 
 os.chdir(os.path.join(os.path.dirname(os.path.abspath(__file__)), ".."))
 CRATES = {os.path.basename(folder) for folder in glob.glob("crates/*")}
-EDITS = [(place, path.split("/")[1], os.path.basename(path)[: -len(".edit")])
-         for place in ("must-fail", "wrong") for path in glob.glob(f"crates/*/{place}/*.edit")]
+EDITS = {(path.split("/")[1], os.path.basename(path)[: -len(".edit")]) for path in glob.glob("crates/*/must-fail/*.edit")}
+
+
+def untold():
+    """The edits of wrong/ that do not say what they do."""
+    for path in glob.glob("crates/*/wrong/*.edit"):
+        with open(path) as file:
+            if not file.read().startswith("# "):
+                yield f"{path}: what it does is not told"
 
 
 def defined(crate):
@@ -43,7 +50,7 @@ def missing_things(text):
             yield f"no path {path}"
 
 
-found = []
+found = list(untold())
 words = 0
 for page in ["README.md", *sorted(glob.glob("docs/*.md"))]:
     with open(page) as file:
@@ -54,11 +61,8 @@ for page in ["README.md", *sorted(glob.glob("docs/*.md"))]:
     if page == "docs/DEFINITIONS.md":
         found += [f"{page}: {what}" for what in missing_words(text)]
     if page == "docs/EDITS.md":
-        tried, others = text.split("\n## ")[1:]
-        told = [("must-fail", crate, name) for name, crate in re.findall(r"^\| `(\w+)` \| `(\w+)`", tried, re.M)]
-        for crate, names in re.findall(r"^\| `(\w+)` \| (.*) \|$", others, re.M):
-            told += [("wrong", crate, name) for name in re.findall(r"`(\w+)`", names)]
-        found += [f"{page}: {'/'.join(edit)} is not told, or not there" for edit in set(told) ^ set(EDITS)]
+        told = {(crate, name) for name, crate in re.findall(r"^\| `(\w+)` \| `(\w+)`", text, re.M)}
+        found += [f"{page}: {'/'.join(edit)} is not told, or not there" for edit in told ^ EDITS]
 print(f"{words:6} in all")
 print("\n".join(sorted(set(found))) or "all is there")
 sys.exit(bool(found))

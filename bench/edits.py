@@ -1,5 +1,6 @@
 #!/usr/bin/env python3
-"""Tries the wrong bodies that the gate does not try: crates/CRATE/wrong/*.edit, for who changes CRATE. docs/EDITS.md names them.
+"""Tries the wrong bodies that the gate does not try: crates/CRATE/wrong/*.edit, for who changes CRATE. The first line of each says what
+it does.
 
     bench/edits.py CRATE..
 
@@ -32,10 +33,12 @@ def copy(room):
 
 
 def place(folder):
-    """Puts the crate's wrong bodies where `rt must-fail` looks; how many they are."""
+    """Puts the crate's wrong bodies where `rt must-fail` looks, and tells what each does; how many they are."""
     wrong = [name for name in sorted(os.listdir(f"{folder}/wrong")) if name.endswith(".edit")] if os.path.isdir(f"{folder}/wrong") else []
     os.makedirs(f"{folder}/must-fail", exist_ok=True)
     for name in wrong:
+        with open(f"{folder}/wrong/{name}") as file:
+            print(f"{name}:", file.readline().lstrip("# ").rstrip())
         os.rename(f"{folder}/wrong/{name}", f"{folder}/must-fail/{name}")
     return len(wrong)
 
