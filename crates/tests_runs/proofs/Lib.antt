@@ -1,2 +1,0 @@
-mod Everywhere
-mod Within
