@@ -1,9 +1,10 @@
 //! Proofs that a system has no point outside others.
 
-ghost use Rattle.std.specs.Prelude.{◌≡◌, ◌↔◌, [], All, IfOk, IfSome, IsNone, IsTrue, false, true, map};
+ghost use Rattle.std.specs.Prelude.{◌≡◌, ◌≤◌, ◌↔◌, ◌+◌, [], All, IfOk, IfSome, IsNone, IsTrue, MatchResult, false, true, map};
 ghost use Rattle.isl_difference.specs.Difference.{IsCovered};
-ghost use Rattle.isl_meter.specs.Gauge.{IsMetered};
+ghost use Rattle.isl_meter.specs.Gauge.{IsCharged, IsCutBy, IsMetered};
 ghost use Rattle.isl_piece.specs.System.{HoldsSystem, IsSystemWithin};
+ghost use Rattle.isl_refute.specs.Passes.{nodes};
 ghost use Rattle.isl_refute.specs.Refutes.{refutes, rows_of};
 
 use isl_difference::{is_covered, references};
@@ -35,27 +36,13 @@ fn is_left(alloc: Global, system: &System, outs: &[System], meter: &mut Meter) -
     Ok(!covered)
 }
 
-// Uses a unit for each node.
-#[tactic(auto, using(std::proofs::lemmas::Grind::common_steps, isl_meter::proofs::CutLemmas::charges))]
-fn pay(nodes: u64, meter: &mut Meter) -> Result<(), Cut>
-    ensures { IsMetered meter.old meter.new result }
-{
-    for _node in 0..nodes {
-        meter.unit()?;
-    }
-    Ok(())
-}
-
 // A proof, if the search finds one. Where a number of the search is too large, the meter counts it.
 #[tactic(auto, using(std::proofs::lemmas::Grind::common_steps, isl_meter::proofs::CutLemmas::charges))]
 fn searched(alloc: Global, system: &System, outs: &[System], meter: &mut Meter) -> Result<Cert, Cut>
     ensures { IsMetered meter.old meter.new result }
 {
     match proof_of(alloc, system, outs) {
-        Ok((cert, nodes)) => {
-            pay(nodes, meter)?;
-            Ok(cert)
-        }
+        Ok(cert) => Ok(cert),
         Err(Cut::Overflow) => {
             let _counted = Int::new(meter.limit()).add(Int::ONE, meter)?;
             Err(Cut::NoMemory)
@@ -64,8 +51,50 @@ fn searched(alloc: Global, system: &System, outs: &[System], meter: &mut Meter) 
     }
 }
 
+// Uses so many units.
+#[tactic(auto, using(std::proofs::lemmas::Grind::common_steps, isl_meter::proofs::CutLemmas::charges))]
+fn pay(units: u64, meter: &mut Meter) -> Result<(), Cut>
+    ensures { MatchResult result
+        (λ _. (meter.new.units ≡ meter.old.units + units) × IsCharged meter.old meter.new)
+        (IsCutBy meter.old meter.new) }
+{
+    for _unit in 0..units {
+        meter.unit()?;
+    }
+    Ok(())
+}
+
+// Whether what was found is a proof. Where it is, a unit is used for each of its nodes beside the one of `check`.
+#[tactic(auto, using(std::proofs::lemmas::Grind::common_steps, isl_meter::proofs::CutLemmas::charges))]
+fn is_proof(
+    alloc: Global,
+    system: &System,
+    outs: &[System],
+    cert: &Cert,
+    meter: &mut Meter,
+) -> Result<bool, Cut>
+    requires within { IsSystemWithin meter.old system.now }
+    requires outs { All (IsSystemWithin meter.old) outs.now }
+    requires columns { All (λ out. out.columns ≡ system.now.columns) outs.now }
+    requires plain { system.now.definitions ≡ [] }
+    requires plain_outs { All (λ out. out.definitions ≡ []) outs.now }
+    ensures exact { IfOk result (λ says. says ≡ refutes (map rows_of outs.now) system.now.columns system.now.rows cert.now) }
+    ensures units { IfOk result (λ says. IsTrue says
+        → meter.new.units ≡ meter.old.units + (nodes cert.now + nodes cert.now)) }
+    ensures meter { IsMetered meter.old meter.new result }
+{
+    let before = meter.units();
+    let yes = check(alloc, system, outs, cert, meter)?;
+    if !yes {
+        return Ok(false);
+    }
+    let looked_at = meter.units() - before;
+    pay(looked_at, meter)?;
+    Ok(true)
+}
+
 /// A proof that no whole point makes the system hold and none of the outs; none where some point does. What is answered was looked at
-/// by `check`. A unit is used for each node, beside those of the question and of `check`.
+/// by `check`. Two units are used for each of its nodes, one as it is made and one as it is looked at, beside those of the question.
 ///
 /// # Errors
 ///
@@ -85,6 +114,7 @@ pub fn certify(
     requires plain_outs { All (λ out. out.definitions ≡ []) outs.now }
     ensures none { IfOk result (λ cert. IsNone cert ↔ (¬ IsCovered system.now outs.now)) }
     ensures refutes { IfOk result (λ cert. IfSome cert (λ c. refutes (map rows_of outs.now) system.now.columns system.now.rows c ≡ true)) }
+    ensures units { IfOk result (λ cert. IfSome cert (λ c. meter.old.units + (nodes c + nodes c) ≤ meter.new.units)) }
     ensures meter { IsMetered meter.old meter.new result }
 {
     let left = is_left(alloc, system, outs, meter)?;
@@ -92,7 +122,7 @@ pub fn certify(
         return Ok(None);
     }
     let cert = searched(alloc, system, outs, meter)?;
-    let says = check(alloc, system, outs, &cert, meter)?;
+    let says = is_proof(alloc, system, outs, &cert, meter)?;
     if !says {
         return Err(Cut::NoMemory);
     }

@@ -1,11 +1,11 @@
 -- What is refuted, of systems.
-use Rattle.std.proofs.Common.{◌≡◌, ◌∙◌, sym, ap, arith, subst, Bool, true, ℕ, ◌≤◌, ℤ, List, [], ◌∷◌, length, map}
-use Rattle.std.specs.Prelude.{IfErr, IfOk, IsTrue, Result, Ok, Err}
+use Rattle.std.proofs.Common.{◌≡◌, ◌∙◌, sym, ap, arith, subst, Bool, true, ℕ, ◌+◌, ◌-◌, ◌≤◌, ◌<◌, ℤ, List, [], ◌∷◌, length, map}
+use Rattle.std.specs.Prelude.{IfErr, IfOk, IsTrue, MatchResult, Result, Ok, Err}
 use Rattle.std.specs.List.{All}
 use Rattle.std.proofs.lemmas.List.Elements.{All-nil, All-cons, All-head, All-tail, All-weaker}
 use Rattle.isl_meter.specs.Gauge.{Gauge, IsMetered}
 use Rattle.isl_meter.specs.declared.Cut.{Cut}
-use Rattle.isl_meter.specs.declared.Cut.TheVariants.{Overflow}
+use Rattle.isl_meter.specs.declared.Cut.TheVariants.{Overflow, Budget}
 use Rattle.isl_piece.specs.declared.definition.Definition.{Definition}
 use Rattle.isl_piece.specs.declared.row.Row.{Row}
 use Rattle.isl_piece.specs.declared.system.System.{System}
@@ -14,10 +14,12 @@ use Rattle.isl_piece.specs.Row.{HasModulus, HoldsRow, IsRowWithin, IsWellFormed}
 use Rattle.isl_piece.specs.System.{HoldRows, HoldsSystem, IsSystemWithin}
 use Rattle.isl_refute.specs.declared.tree.Cert.{Cert}
 use Rattle.isl_refute.specs.Checked.{IsChecked, IsFact, IsOut, IsOutRow}
-use Rattle.isl_refute.specs.Passes.{nodes, IsCounted, Passes}
+use Rattle.isl_refute.specs.Passes.{nodes, Passes}
 use Rattle.isl_refute.specs.Refutes.{refutes, rows_of, HasNoneOutside}
+use Rattle.isl_refute.specs.Visited.{visited}
 use Rattle.isl_refute.proofs.Sound.{Fails, sound}
 use Rattle.isl_refute.proofs.StepLaws.{Stands}
+use Rattle.isl_refute.proofs.VisitedLaws.{visited_whole}
 
 -- the columns of a system without definitions are free
 plain_point : (definitions : List Definition) (point : List ℤ) → definitions ≡ [] → with_defined definitions point ≡ point
@@ -32,7 +34,8 @@ both P Q (x ∷ xs) p q =
 pub own_facts : (g : Gauge) (system : System) → IsSystemWithin g system → All (IsFact g system.columns) system.rows
 own_facts g system w =
     All-weaker (λ r. IsWellFormed system.columns r × IsRowWithin g r) (IsFact g system.columns)
-    (λ r h. record { formed = h.0; within = h.1 }) system.rows (both (IsWellFormed system.columns) (IsRowWithin g) system.rows w.rows w.within)
+    (λ r h. record { formed = h.0; within = h.1 }) system.rows
+    (both (IsWellFormed system.columns) (IsRowWithin g) system.rows w.rows w.within)
 
 out_rows : (g : Gauge) (n : ℕ) (out : System) → IsSystemWithin g out → out.columns ≡ n → IsOut g n out
 out_rows g n out w same =
@@ -40,7 +43,8 @@ out_rows g n out w same =
     (λ r h. record { width = (let e = h.0.width in omega (arith, e, same)); modulus = h.0.modulus; within = h.1 }) out.rows
     (both (IsWellFormed out.columns) (IsRowWithin g) out.rows w.rows w.within)
 
-pub own_outs : (g : Gauge) (n : ℕ) (outs : List System) → All (IsSystemWithin g) outs → All (λ out. out.columns ≡ n) outs → All (IsOut g n) outs
+pub own_outs : (g : Gauge) (n : ℕ) (outs : List System) → All (IsSystemWithin g) outs → All (λ out. out.columns ≡ n) outs
+    → All (IsOut g n) outs
 own_outs g n outs w c =
     All-weaker (λ out. IsSystemWithin g out × (out.columns ≡ n)) (IsOut g n) (λ out h. out_rows g n out h.0 h.1) outs
     (both (IsSystemWithin g) (λ out. out.columns ≡ n) outs w c)
@@ -84,16 +88,17 @@ module _ (g : Gauge) (system : System) (outs : List System) (within : IsSystemWi
 -- ---- what the clauses of the call say
 abbrev IsAnswer : Gauge → Gauge → System → List System → Cert → Result Bool Cut → Type 0
 IsAnswer g h system outs cert result =
-    IsChecked g h (refutes (map rows_of outs) system.columns system.rows cert) (nodes cert)
+    IsChecked g h (refutes (map rows_of outs) system.columns system.rows cert) (visited (map rows_of outs) system.columns system.rows cert)
     (Passes g.bits (map rows_of outs) system.columns system.rows cert) result
 
 pub answer_shown : (g h : Gauge) (system : System) (outs : List System) (cert : Cert) (rows : List Row) (result : Result Bool Cut)
     → rows ≡ system.rows
-    → IsChecked g h (refutes (map rows_of outs) system.columns rows cert) (nodes cert)
+    → IsChecked g h (refutes (map rows_of outs) system.columns rows cert) (visited (map rows_of outs) system.columns rows cert)
     (Passes g.bits (map rows_of outs) system.columns rows cert) result
     → IsAnswer g h system outs cert result
 answer_shown g h system outs cert rows result is p =
-    subst (λ (l : List Row). IsChecked g h (refutes (map rows_of outs) system.columns l cert) (nodes cert)
+    subst (λ (l : List Row). IsChecked g h (refutes (map rows_of outs) system.columns l cert)
+    (visited (map rows_of outs) system.columns l cert)
     (Passes g.bits (map rows_of outs) system.columns l cert) result) is p
 
 pub exact_told : (g h : Gauge) (system : System) (outs : List System) (cert : Cert) (result : Result Bool Cut)
@@ -110,9 +115,17 @@ sound_told g h system outs cert (Ok b) within outs_within columns plain plain_ou
 sound_told g h system outs cert (Err cut) within outs_within columns plain plain_outs p = tt
 
 pub units_told : (g h : Gauge) (system : System) (outs : List System) (cert : Cert) (result : Result Bool Cut)
-    → IsAnswer g h system outs cert result → IfOk result (λ says. IsCounted g h says (nodes cert))
-units_told g h system outs cert (Ok b) p = p.1
-units_told g h system outs cert (Err cut) p = tt
+    → IsAnswer g h system outs cert result
+    → MatchResult result (λ _. h.units ≡ g.units + visited (map rows_of outs) system.columns system.rows cert)
+    (λ _. h.units ≤ g.units + visited (map rows_of outs) system.columns system.rows cert)
+units_told g h system outs cert (Ok b) p = p.1.units
+units_told g h system outs cert (Err cut) p = p.most
+
+pub whole_told : (g h : Gauge) (system : System) (outs : List System) (cert : Cert) (result : Result Bool Cut)
+    → IsAnswer g h system outs cert result
+    → IfOk result (λ says. IsTrue says → visited (map rows_of outs) system.columns system.rows cert ≡ nodes cert)
+whole_told g h system outs cert (Ok b) p = λ t. visited_whole (map rows_of outs) cert system.columns system.rows (sym p.0 ∙ t)
+whole_told g h system outs cert (Err cut) p = tt
 
 pub meter_told : (g h : Gauge) (system : System) (outs : List System) (cert : Cert) (result : Result Bool Cut)
     → IsAnswer g h system outs cert result → IsMetered g h result
@@ -121,6 +134,12 @@ meter_told g h system outs cert (Err cut) p = p.by
 
 pub overflow_told : (g h : Gauge) (system : System) (outs : List System) (cert : Cert) (result : Result Bool Cut)
     → IsAnswer g h system outs cert result
-    → IfErr result (λ cut. cut ≡ Overflow → Passes g.bits (map rows_of outs) system.columns system.rows cert)
+    → IfErr result (λ cut. cut ≡ Overflow → Passes g.bits (map rows_of outs) system.columns system.rows cert (h.units - g.units))
 overflow_told g h system outs cert (Ok b) p = tt
 overflow_told g h system outs cert (Err cut) p = p.overflow
+
+pub budget_told : (g h : Gauge) (system : System) (outs : List System) (cert : Cert) (result : Result Bool Cut)
+    → IsAnswer g h system outs cert result
+    → IfErr result (λ cut. cut ≡ Budget → h.units < g.units + visited (map rows_of outs) system.columns system.rows cert)
+budget_told g h system outs cert (Ok b) p = tt
+budget_told g h system outs cert (Err cut) p = p.budget

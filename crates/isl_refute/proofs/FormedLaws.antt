@@ -1,5 +1,6 @@
 -- What a step adds is over the columns of the rows before it.
-use Rattle.std.proofs.Common.{◌≡◌, ◌∙◌, refl, sym, arith, subst, Bool, true, false, ◌&&◌, int_lt, int_eq, ℕ, ◌+◌, ℤ, pos, neg_ℤ, negsuc, ◌+ℤ◌, ◌*ℤ◌, List, [], ◌∷◌, ◌++◌, length, length-append, Option, Some, None, cond}
+use Rattle.std.proofs.Common.{◌≡◌, ◌∙◌, refl, sym, arith, subst, Bool, true, false, ◌&&◌, int_lt, int_eq, ℕ, ◌+◌, ℤ, pos, neg_ℤ, negsuc}
+use Rattle.std.proofs.Common.{◌+ℤ◌, ◌*ℤ◌, List, [], ◌∷◌, ◌++◌, length, length-append, Option, Some, None, cond}
 use Rattle.std.specs.Cmp.Lexicographic.{pointwise}
 use Rattle.std.proofs.lemmas.Bool.{and_parts}
 use Rattle.std.proofs.lemmas.Option.{cond_some, none-some, same_Some}
@@ -42,17 +43,20 @@ kinds_formed NotDivides AtLeast j k l m = tt
 kinds_formed NotDivides Divides j k l m = same_one NotDivides j k l
 kinds_formed NotDivides NotDivides j k l m = tt
 
-of_kind_formed : (n : ℕ) (o : Option (RowKind × ℤ)) (cs : List ℤ) (c : ℤ) (made : Row) → HasOne o → length cs ≡ n → of_kind o cs c ≡ Some made
+of_kind_formed : (n : ℕ) (o : Option (RowKind × ℤ)) (cs : List ℤ) (c : ℤ) (made : Row) → HasOne o → length cs ≡ n
+    → of_kind o cs c ≡ Some made
     → IsWellFormed n made
 of_kind_formed n None cs c made h w e = absurd (none-some made e)
 of_kind_formed n (Some both) cs c made h w e =
-    subst (IsWellFormed n) (same_Some (record { kind = both.0; coefs = cs; constant = c; k = both.1 }) made e) (record { width = w; modulus = h })
+    subst (IsWellFormed n) (same_Some (record { kind = both.0; coefs = cs; constant = c; k = both.1 }) made e)
+    (record { width = w; modulus = h })
 
 split_some : (t : Bool) (o : Option Row) (made : Row) → cond t o None ≡ Some made → o ≡ Some made
 split_some true o made e = e
 split_some false o made e = absurd (none-some made e)
 
-pub sum_formed : (n : ℕ) (a b : ℤ) (r s made : Row) → IsWellFormed n r → IsWellFormed n s → sum_row a b r s ≡ Some made → IsWellFormed n made
+pub sum_formed : (n : ℕ) (a b : ℤ) (r s made : Row) → IsWellFormed n r → IsWellFormed n s → sum_row a b r s ≡ Some made
+    → IsWellFormed n made
 sum_formed n a b r s made p q e =
     of_kind_formed n (kind_of_sum r.kind r.k s.kind s.k) (weighted_sum a r.coefs b s.coefs) (a *ℤ r.constant +ℤ b *ℤ s.constant) made
     (kinds_formed r.kind s.kind r.k s.k p.modulus q.modulus) (length-sum a b r.coefs s.coefs (p.width ∙ sym q.width) ∙ p.width)

@@ -8,3 +8,4 @@ pub mod CheckLaws
 pub mod NodeLaws
 pub mod CertifiedLaws
 pub mod TextLaws
+pub mod VisitedLaws

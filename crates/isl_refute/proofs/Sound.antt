@@ -1,5 +1,7 @@
 -- What is refuted holds nowhere outside the outs.
-use Rattle.std.proofs.Common.{int_eq, not, ◌≡◌, ◌⊎◌, inl, inr, ◌∙◌, refl, sym, ap, arith, subst, Bool, true, false, ◌&&◌, int_lt, ℕ, zero, suc, ◌+◌, ◌-◌, ◌<◌, ◌≤◌, ℤ, pos, negsuc, ◌+ℤ◌, ◌-ℤ◌, ◌*ℤ◌, ◌≤ℤ◌, ◌<ℤ◌, List, [], ◌∷◌, ◌++◌, length, length-append, map, replicate, Option, Some, None, slice_get, unsigned_abs}
+use Rattle.std.proofs.Common.{int_eq, not, ◌≡◌, ◌⊎◌, inl, inr, ◌∙◌, refl, sym, ap, arith, subst, Bool, true, false, ◌&&◌, int_lt, ℕ, zero}
+use Rattle.std.proofs.Common.{suc, ◌+◌, ◌-◌, ◌<◌, ◌≤◌, ℤ, pos, negsuc, ◌+ℤ◌, ◌-ℤ◌, ◌*ℤ◌, ◌≤ℤ◌, ◌<ℤ◌, List, [], ◌∷◌, ◌++◌, length}
+use Rattle.std.proofs.Common.{length-append, map, replicate, Option, Some, None, slice_get, unsigned_abs}
 use Rattle.std.specs.List.{All, Any, list_all, range_with_len}
 use Rattle.std.proofs.lemmas.Bool.{and_parts, true≢false, eqb-true}
 use Rattle.std.proofs.lemmas.Bool.Decides.{Decides-int_eq, Decides-not}
@@ -22,15 +24,17 @@ use Rattle.isl_piece.specs.System.{HoldRows, widened}
 use Rattle.isl_piece.proofs.ContentLaws.{length-scaled, zero_cases}
 use Rattle.isl_piece.proofs.NegationLaws.{negation_holds}
 use Rattle.isl_piece.proofs.NormalCases.{divides_cases, negative_cases, int_lt-false}
-use Rattle.isl_refute.specs.declared.tree.Cert.{Cert, False, Add', Tie', Mod', Weaken', Fresh', Split', Residue', Outside', Row_of-Cert, end_of-Cert, more_of-Cert}
+use Rattle.isl_refute.specs.declared.tree.Cert.{Cert, False, Add', Tie', Mod', Weaken', Fresh', Split', Residue', Outside', Row_of-Cert}
+use Rattle.isl_refute.specs.declared.tree.Cert.{end_of-Cert, more_of-Cert}
 use Rattle.isl_refute.specs.declared.tree.Form.{Form}
-use Rattle.isl_refute.specs.Refutes.{standing_row, and_row, with_both, with_one, where_some, is_false, holds_number, is_over, padded, negations, residue_rows}
+use Rattle.isl_refute.specs.Refutes.{standing_row, and_row, with_both, with_one, where_some, is_false, holds_number, is_over, padded}
+use Rattle.isl_refute.specs.Refutes.{negations, residue_rows}
 use Rattle.isl_refute.specs.Refutes.{sum_row, tie_row, mod_row, weaken_row, fresh_row, refutes, refutes_in, refutes_each}
 use Rattle.isl_refute.proofs.StandingLaws.{standing_holds, standing_over}
 use Rattle.isl_refute.proofs.StepLaws.{Stands, sum_stands, tie_stands, mod_stands, weaken_stands, fresh_stands, lt_from}
 
 -- ---- options
-found_some : {A : Type 0} (o : Option A) (test : A → Bool) → where_some o test ≡ true → (x : A) × (o ≡ Some x) × (test x ≡ true)
+pub found_some : {A : Type 0} (o : Option A) (test : A → Bool) → where_some o test ≡ true → (x : A) × (o ≡ Some x) × (test x ≡ true)
 found_some None test e = absurd (true≢false (sym e))
 found_some (Some x) test e = (x, refl, e)
 
@@ -67,11 +71,15 @@ one_more n xs rows r f s = record {
 widened_stand : (n : ℕ) (xs : List ℤ) (w : ℤ) (r : Row) → length xs ≡ n → Stands n xs r → Stands (n + 1) (xs ++ w ∷ []) (widened r)
 widened_stand n xs w r wide s = record {
   holds = subst (HoldsValue r.kind r.k) (sym value) s.holds;
-  formed = record { width = (let l = length-append r.coefs (pos 0 ∷ []) in let m = s.formed.width in omega arith); modulus = s.formed.modulus };
+  formed = record {
+    width = (let l = length-append r.coefs (pos 0 ∷ []) in let m = s.formed.width in omega arith);
+    modulus = s.formed.modulus;
+  };
 }
   where
     value : dot (r.coefs ++ pos 0 ∷ []) (xs ++ w ∷ []) +ℤ r.constant ≡ dot r.coefs xs +ℤ r.constant
-    value = by (dot (r.coefs ++ pos 0 ∷ []) (xs ++ w ∷ [])) (dot r.coefs xs) (dot-append r.coefs (pos 0 ∷ []) xs (w ∷ []) (s.formed.width ∙ sym wide))
+    value = by (dot (r.coefs ++ pos 0 ∷ []) (xs ++ w ∷ [])) (dot r.coefs xs)
+        (dot-append r.coefs (pos 0 ∷ []) xs (w ∷ []) (s.formed.width ∙ sym wide))
       where
         by : (z v : ℤ) → z ≡ v +ℤ (pos 0 *ℤ w +ℤ pos 0) → z +ℤ r.constant ≡ v +ℤ r.constant
         by z v f = omega (arith, linear)
@@ -107,13 +115,15 @@ still_fails n xs w out wide f = record {
   fails = λ h. f.fails (hold out f.formed h);
 }
   where
-    hold : (rows : List Row) → All (λ r. (length r.coefs ≤ n) × HasModulus r.kind r.k) rows → HoldRows rows (xs ++ w ∷ []) → HoldRows rows xs
+    hold : (rows : List Row) → All (λ r. (length r.coefs ≤ n) × HasModulus r.kind r.k) rows → HoldRows rows (xs ++ w ∷ [])
+        → HoldRows rows xs
     hold [] l h = All-nil (λ r. HoldsRow r xs)
     hold (r ∷ rows) l h = All-cons (λ s. HoldsRow s xs) r rows
         (subst (λ z. HoldsValue r.kind r.k (z +ℤ r.constant))
         (dot_more r.coefs xs w (let m = (All-head (λ s. (length s.coefs ≤ n) × HasModulus s.kind s.k) r rows l).0 in omega arith))
         (All-head (λ s. HoldsRow s (xs ++ w ∷ [])) r rows h))
-        (hold rows (All-tail (λ s. (length s.coefs ≤ n) × HasModulus s.kind s.k) r rows l) (All-tail (λ s. HoldsRow s (xs ++ w ∷ [])) r rows h))
+        (hold rows (All-tail (λ s. (length s.coefs ≤ n) × HasModulus s.kind s.k) r rows l)
+        (All-tail (λ s. HoldsRow s (xs ++ w ∷ [])) r rows h))
 
 -- ---- negations
 value_stable : (kind : RowKind) (k z : ℤ) → HasModulus kind k → ¬ (¬ HoldsValue kind k z) → HoldsValue kind k z
@@ -126,8 +136,10 @@ negated_formed : (n : ℕ) (r : Row) → IsWellFormed n r → All (IsWellFormed 
 negated_formed n r f = by r.kind r.k f.modulus
   where
     by : (kind : RowKind) (k : ℤ) → HasModulus kind k → All (IsWellFormed n) (negated_form kind r.coefs r.constant k)
-    by Zero k m = All-cons (IsWellFormed n) (above r.coefs r.constant) (below r.coefs r.constant ∷ []) (record { width = f.width; modulus = refl })
-        (All-cons (IsWellFormed n) (below r.coefs r.constant) [] (record { width = length-scaled (negsuc 0) r.coefs ∙ f.width; modulus = refl })
+    by Zero k m = All-cons (IsWellFormed n) (above r.coefs r.constant) (below r.coefs r.constant ∷ [])
+        (record { width = f.width; modulus = refl })
+        (All-cons (IsWellFormed n) (below r.coefs r.constant) []
+        (record { width = length-scaled (negsuc 0) r.coefs ∙ f.width; modulus = refl })
         (All-nil (IsWellFormed n)))
     by AtLeast k m = All-cons (IsWellFormed n) (below r.coefs r.constant) []
         (record { width = length-scaled (negsuc 0) r.coefs ∙ f.width; modulus = refl }) (All-nil (IsWellFormed n))
@@ -138,15 +150,18 @@ negated_formed n r f = by r.kind r.k f.modulus
 
 pub padded_formed : (n : ℕ) (r : Row) → length r.coefs ≤ n → HasModulus r.kind r.k → IsWellFormed n (padded n r)
 padded_formed n r l m = record {
-  width = (let a = length-append r.coefs (replicate (n - length r.coefs) (pos 0)) in let b = length-replicate (n - length r.coefs) (pos 0) in omega arith);
+  width = (let a = length-append r.coefs (replicate (n - length r.coefs) (pos 0)) in let b = length-replicate (n - length r.coefs) (pos 0)
+      in omega arith);
   modulus = m;
 }
 
-pub negations_formed : (n : ℕ) (out : List Row) → All (λ r. (length r.coefs ≤ n) × HasModulus r.kind r.k) out → All (IsWellFormed n) (negations n out)
+pub negations_formed : (n : ℕ) (out : List Row) → All (λ r. (length r.coefs ≤ n) × HasModulus r.kind r.k) out
+    → All (IsWellFormed n) (negations n out)
 negations_formed n [] h = All-nil (IsWellFormed n)
 negations_formed n (r ∷ rows) h =
     let first = All-head (λ s. (length s.coefs ≤ n) × HasModulus s.kind s.k) r rows h in
-    All-append (IsWellFormed n) (negation_of (padded n r)) (negations n rows) (negated_formed n (padded n r) (padded_formed n r first.0 first.1))
+    All-append (IsWellFormed n) (negation_of (padded n r)) (negations n rows)
+    (negated_formed n (padded n r) (padded_formed n r first.0 first.1))
     (negations_formed n rows (All-tail (λ s. (length s.coefs ≤ n) × HasModulus s.kind s.k) r rows h))
 
 none_any : {X : Type 0} (P : X → Type 0) (xs : List X) → All (λ x. ¬ P x) xs → ¬ Any P xs
@@ -249,17 +264,20 @@ false_holds xs r s e = by r.kind r.k s.formed.modulus both.1 (subst (HoldsValue 
         (Decides-not (int_eq (floor_mod r.constant k) (pos 0)) (Decides-int_eq (floor_mod r.constant k) (pos 0))).0 t
         (mod-from_Divides k r.constant m h)
     by NotDivides k m t h =
-        h (Divides-from_mod k r.constant m ((Decides-int_eq (floor_mod r.constant k) (pos 0)).0 (twice (int_eq (floor_mod r.constant k) (pos 0)) t)))
+        h (Divides-from_mod k r.constant m ((Decides-int_eq (floor_mod r.constant k) (pos 0)).0
+        (twice (int_eq (floor_mod r.constant k) (pos 0)) t)))
 
 -- ---- what is refuted
 module _ (outs : List (List Row)) where
   mutual
-    pub sound : (cert : Cert) (n : ℕ) (rows : List Row) (xs : List ℤ) → Facts n xs rows → All (Fails n xs) outs → ¬ (refutes outs n rows cert ≡ true)
+    pub sound : (cert : Cert) (n : ℕ) (rows : List Row) (xs : List ℤ) → Facts n xs rows → All (Fails n xs) outs
+        → ¬ (refutes outs n rows cert ≡ true)
     sound (False i) n rows xs f o e =
         let r = found_some (slice_get rows i) (λ r. is_false r) e in
         false_holds xs r.0 (at_place (Stands n xs) rows i r.0 f.stand r.1) r.2
     sound (Add' i a j b s part) n rows xs f o e =
-        let g = found_some (with_both (slice_get rows i) (slice_get rows j) (sum_row a b)) (λ r. refutes_in outs n (and_row rows r) part) e in
+        let g = found_some (with_both (slice_get rows i) (slice_get rows j) (sum_row a b)) (λ r. refutes_in outs n (and_row rows r) part) e
+        in
         let h = found_both (slice_get rows i) (slice_get rows j) (sum_row a b) g.0 g.1 in
         let first = at_place (Stands n xs) rows i h.0 f.stand h.2 in
         let second = at_place (Stands n xs) rows j h.1 f.stand h.3 in
@@ -310,7 +328,8 @@ module _ (outs : List (List Row)) where
         let wide = over_width n form both.0 in
         let all = sound_each (residue_rows form k) parts n rows xs f o
         (residue_formed n form k wide (omega (arith, linear)) (range_with_len 0 (unsigned_abs k))) rest.1 in
-        let none = All-unmapped (λ r. ¬ HoldsRow r xs) (λ r. congruence form.coefs (form.constant -ℤ pos r) k) (range_with_len 0 (unsigned_abs k)) all in
+        let none = All-unmapped (λ r. ¬ HoldsRow r xs) (λ r. congruence form.coefs (form.constant -ℤ pos r) k)
+        (range_with_len 0 (unsigned_abs k)) all in
         in_range (λ m. ¬ HoldsRow (congruence form.coefs (form.constant -ℤ pos m) k) xs) 0 (unsigned_abs k) at.0 none (omega arith)
         (let l = at.1 in omega arith) at.2
     sound (Outside' q s parts) n rows xs f o e =

@@ -22,7 +22,8 @@ constant_value n c xs = let z = dot-zeros n xs in omega (arith, linear)
 one_odd : divide.Divides (pos 2) (pos 1) → ⊥
 one_odd d = let e = d.is in omega (arith, linear)
 
-always_holds : (kind : RowKind) (cs : List ℤ) (c k : ℤ) (xs : List ℤ) → HoldsValue kind k (dot cs [] +ℤ c) → HoldsRow (always_row kind cs c) xs
+always_holds : (kind : RowKind) (cs : List ℤ) (c k : ℤ) (xs : List ℤ) → HoldsValue kind k (dot cs [] +ℤ c)
+    → HoldsRow (always_row kind cs c) xs
 always_holds Zero cs c k xs h = constant_value (length cs) (pos 0) xs
 always_holds AtLeast cs c k xs h =
     let v = constant_value (length cs) c xs in
@@ -32,7 +33,8 @@ always_holds Divides cs c k xs h = one-Divides (dot (replicate (length cs) (pos 
 always_holds NotDivides cs c k xs h =
     λ d. one_odd (Divides-same (pos 2) (dot (replicate (length cs) (pos 0)) xs +ℤ pos 1) (pos 1) (constant_value (length cs) (pos 1) xs) d)
 
-never_fails : (kind : RowKind) (cs : List ℤ) (c k : ℤ) (xs : List ℤ) → ¬ HoldsValue kind k (dot cs [] +ℤ c) → ¬ HoldsRow (never_row kind cs c) xs
+never_fails : (kind : RowKind) (cs : List ℤ) (c k : ℤ) (xs : List ℤ) → ¬ HoldsValue kind k (dot cs [] +ℤ c)
+    → ¬ HoldsRow (never_row kind cs c) xs
 never_fails Zero cs c k xs n h = let v = constant_value (length cs) (pos 1) xs in omega (arith, linear)
 never_fails AtLeast cs c k xs n h =
     let v = constant_value (length cs) c xs in

@@ -1,5 +1,7 @@
 -- What a step adds holds where the rows before it do.
-use Rattle.std.proofs.Common.{◌≡◌, inl, inr, ◌∙◌, refl, sym, ap, arith, subst, Bool, true, false, ◌&&◌, not, int_lt, ℕ, suc, ◌+◌, ℤ, pos, negsuc, neg_ℤ, ◌+ℤ◌, ◌-ℤ◌, ◌*ℤ◌, ◌≤ℤ◌, ◌<ℤ◌, List, [], ◌∷◌, ◌++◌, length, length-append, Option, Some, None, cond, int_eq}
+use Rattle.std.proofs.Common.{◌≡◌, inl, inr, ◌∙◌, refl, sym, ap, arith, subst, Bool, true, false, ◌&&◌, not, int_lt, ℕ, suc, ◌+◌, ℤ, pos}
+use Rattle.std.proofs.Common.{negsuc, neg_ℤ, ◌+ℤ◌, ◌-ℤ◌, ◌*ℤ◌, ◌≤ℤ◌, ◌<ℤ◌, List, [], ◌∷◌, ◌++◌, length, length-append, Option, Some, None}
+use Rattle.std.proofs.Common.{cond, int_eq}
 use Rattle.std.specs.Cmp.Lexicographic.{pointwise}
 use Rattle.std.proofs.lemmas.Bool.{and_parts, true≢false}
 use Rattle.std.proofs.lemmas.Bool.Decides.{Decides-int_eq}
@@ -63,7 +65,8 @@ scaled_holds : (kind : RowKind) (k b w : ℤ) → is_factor kind b ≡ true → 
 scaled_holds Zero k b w f h = rw h (omega (arith, linear))
 scaled_holds AtLeast k b w f h = not_negative-*ℤ b w (not_negative b f) h
 scaled_holds Divides k b w f h = Divides-same k (w *ℤ b) (b *ℤ w) (*ℤ_comm w b) (Divides-*ℤ k w b h)
-scaled_holds NotDivides k b w f n = λ d. n (Divides-same k (b *ℤ w) w (let e = (Decides-int_eq b (pos 1)).0 f in rw e (omega (arith, linear))) d)
+scaled_holds NotDivides k b w f n = λ d. n
+    (Divides-same k (b *ℤ w) w (let e = (Decides-int_eq b (pos 1)).0 f in rw e (omega (arith, linear))) d)
 
 abbrev Summed : Option (RowKind × ℤ) → ℤ → Type 0
 Summed None z = Unit {0}
@@ -79,7 +82,8 @@ same_kept kind j k z m f = by (int_eq j k) refl
     by true e = (f ((Decides-int_eq j k).0 e), m)
     by false e = tt
 
-kinds_summed : (first second : RowKind) (j k v w : ℤ) → HasModulus first j → HasModulus second k → HoldsValue first j v → HoldsValue second k w
+kinds_summed : (first second : RowKind) (j k v w : ℤ) → HasModulus first j → HasModulus second k → HoldsValue first j v
+    → HoldsValue second k w
     → Summed (kind_of_sum first j second k) (v +ℤ w)
 kinds_summed Zero other j k v w l m h g = (holds_same other k w (v +ℤ w) (omega (arith, linear)) g, m)
 kinds_summed AtLeast Zero j k v w l m h g = (holds_same AtLeast j v (v +ℤ w) (omega (arith, linear)) h, l)
@@ -94,7 +98,8 @@ kinds_summed Divides NotDivides j k v w l m h n = same_kept NotDivides j k (v +�
 kinds_summed NotDivides Zero j k v w l m h g = (holds_same NotDivides j v (v +ℤ w) (omega (arith, linear)) h, l)
 kinds_summed NotDivides AtLeast j k v w l m h g = tt
 kinds_summed NotDivides Divides j k v w l m n g = same_kept NotDivides j k (v +ℤ w) l
-    (λ e d. n (Divides-same j (v +ℤ w -ℤ w) v (omega (arith, linear)) (Divides-minus j (v +ℤ w) w d (subst (λ i. divide.Divides i w) (sym e) g))))
+    (λ e d. n (Divides-same j (v +ℤ w -ℤ w) v (omega (arith, linear))
+    (Divides-minus j (v +ℤ w) w d (subst (λ i. divide.Divides i w) (sym e) g))))
 kinds_summed NotDivides NotDivides j k v w l m h g = tt
 
 pub length-sum : (a b : ℤ) (xs ys : List ℤ) → length xs ≡ length ys → length (weighted_sum a xs b ys) ≡ length xs
@@ -107,7 +112,8 @@ pub record Stands (n : ℕ) (xs : List ℤ) (r : Row) : Type 0 where
   pub holds : HoldsRow r xs
   pub formed : IsWellFormed n r
 
-pub sum_stands : (n : ℕ) (xs : List ℤ) (a b : ℤ) (r s sum : Row) → Stands n xs r → Stands n xs s → sum_row a b r s ≡ Some sum → Stands n xs sum
+pub sum_stands : (n : ℕ) (xs : List ℤ) (a b : ℤ) (r s sum : Row) → Stands n xs r → Stands n xs s → sum_row a b r s ≡ Some sum
+    → Stands n xs sum
 sum_stands n xs a b r s sum p q e = by (kind_of_sum r.kind r.k s.kind s.k) summed found.1
   where
     cs : List ℤ
@@ -189,7 +195,8 @@ tie_stands n xs r s made p q e = subst (Stands n xs) found.1 (record {
     zero : dot r.coefs xs +ℤ r.constant ≡ pos 0
     zero = by (dot r.coefs xs) (dot s.coefs xs) s.constant above under turned constant
       where
-        by : (v w c : ℤ) → pos 0 ≤ℤ (v +ℤ r.constant) → pos 0 ≤ℤ (w +ℤ c) → w ≡ negsuc 0 *ℤ v → c ≡ neg_ℤ r.constant → v +ℤ r.constant ≡ pos 0
+        by : (v w c : ℤ) → pos 0 ≤ℤ (v +ℤ r.constant) → pos 0 ≤ℤ (w +ℤ c) → w ≡ negsuc 0 *ℤ v → c ≡ neg_ℤ r.constant
+            → v +ℤ r.constant ≡ pos 0
         by v w c a u t f = omega (arith, linear)
 
 pub mod_stands : (n : ℕ) (xs : List ℤ) (k : ℤ) (r made : Row) → Stands n xs r → mod_row k r ≡ Some made → Stands n xs made
@@ -209,7 +216,8 @@ mod_stands n xs k r made p e = subst (Stands n xs) found.1 (record {
 
 pub weaken_stands : (n : ℕ) (xs : List ℤ) (k : ℤ) (r made : Row) → Stands n xs r → weaken_row k r ≡ Some made → Stands n xs made
 weaken_stands n xs k r made p e = subst (Stands n xs) found.1 (record {
-  holds = Divides_trans k r.k (value_at r xs) (Divides-from_mod k r.k positive ((Decides-int_eq (floor_mod r.k k) (pos 0)).0 rest.1)) divided;
+  holds = Divides_trans k r.k (value_at r xs) (Divides-from_mod k r.k positive ((Decides-int_eq (floor_mod r.k k) (pos 0)).0 rest.1))
+      divided;
   formed = record { width = p.formed.width; modulus = positive };
 })
   where

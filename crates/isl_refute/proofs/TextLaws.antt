@@ -4,12 +4,14 @@ use Rattle.std.proofs.Common.{◌≡◌, ◌∙◌, refl, sym, ap, ap₂, ℕ, �
 use Rattle.std.specs.Prelude.{codes}
 use Rattle.std.specs.Fmt.{signed_decimal}
 use Rattle.std.proofs.lemmas.List.{append_assoc, append-nil, drop_more, drop_all}
-use Rattle.isl_refute.specs.declared.tree.Cert.{Cert, False, Add, Tie, Mod, Weaken, Fresh, Split, Residue, Outside, Row_of-Cert, end_of-Cert, more_of-Cert}
+use Rattle.isl_refute.specs.declared.tree.Cert.{Cert, False, Add, Tie, Mod, Weaken, Fresh, Split, Residue, Outside, Row_of-Cert}
+use Rattle.isl_refute.specs.declared.tree.Cert.{end_of-Cert, more_of-Cert}
 use Rattle.isl_refute.specs.declared.tree.Cert.{items-the_row-Cert, items_hidden-the_row-Cert-1}
 use Rattle.isl_refute.specs.declared.tree.Cert.TheBlock.{hidden-the_row-Cert-0, hidden-the_row-Cert-1}
 use Rattle.isl_refute.specs.declared.tree.Form.{Form}
 use Rattle.isl_refute.specs.CertText.{cert_text, numbers_text, parts_text}
-use Rattle.isl_refute.specs.CertText.{false_head, add_head, tie_head, mod_head, weaken_head, fresh_head, split_head, residue_head, outside_head}
+use Rattle.isl_refute.specs.CertText.{false_head, add_head, tie_head, mod_head, weaken_head, fresh_head, split_head, residue_head}
+use Rattle.isl_refute.specs.CertText.{outside_head}
 use Rattle.isl_refute.specs.Parts.{texts_of}
 
 abbrev Text : Type 0
@@ -33,7 +35,8 @@ texts_are m (more_of-Cert cert row) = ap (λ t. part_text cert ++ t) (texts_are 
 all_parts : (parts : List Cert) → parts_text (hidden-the_row-Cert-1 parts) ≡ texts_of parts
 all_parts parts = texts_are _ (hidden-the_row-Cert-1 parts) ∙ ap texts_of (items_hidden-the_row-Cert-1 parts)
 
-pub add_written : (x : Cert) (i : ℕ) (a : ℤ) (j : ℕ) (b c d : ℤ) (part inner : Cert) (old mid new : Text) → x ≡ Add i a j b part → inner ≡ part → c ≡ a → d ≡ b
+pub add_written : (x : Cert) (i : ℕ) (a : ℤ) (j : ℕ) (b c d : ℤ) (part inner : Cert) (old mid new : Text) → x ≡ Add i a j b part
+    → inner ≡ part → c ≡ a → d ≡ b
     → mid ≡ old ++ add_head i c j d → new ≡ mid ++ (codes " " ++ cert_text inner) → new ≡ old ++ cert_text x
 add_written x i a j b c d part inner old mid new is same n0 n1 first second =
     linked old mid new (add_head i a j b) (part_text inner) (first ∙ ap₂ (λ (y z : ℤ). old ++ add_head i y j z) n0 n1) second
@@ -73,7 +76,8 @@ fresh_written x i part inner old mid new is same first second =
     ∙ ap (λ t. old ++ (fresh_head i ++ t)) (sym (one_part part))
     ∙ ap (λ t. old ++ cert_text t) (sym is)
 
-pub residue_written : (x : Cert) (form : Form) (k l : ℤ) (parts slice : List Cert) (old mid new : Text) → x ≡ Residue form k parts → slice ≡ parts → l ≡ k
+pub residue_written : (x : Cert) (form : Form) (k l : ℤ) (parts slice : List Cert) (old mid new : Text) → x ≡ Residue form k parts
+    → slice ≡ parts → l ≡ k
     → mid ≡ old ++ residue_head form l → new ≡ mid ++ texts_of slice → new ≡ old ++ cert_text x
 residue_written x form k l parts slice old mid new is same n0 first second =
     linked old mid new (residue_head form k) (texts_of slice) (first ∙ ap (λ (z : ℤ). old ++ residue_head form z) n0) second
@@ -118,7 +122,8 @@ numbers_end numbers i before whole over so_far =
     sym (ap (λ l. before ++ numbers_text l) (drop_all i numbers over) ∙ append-nil before) ∙ so_far
 
 pub parts_more : (parts : List Cert) (i : ℕ) (part : Cert) (before after whole : Text) → i < length parts → part ≡ get_or parts i part
-    → after ≡ before ++ (codes " " ++ cert_text part) → before ++ texts_of (drop i parts) ≡ whole → after ++ texts_of (drop (i + 1) parts) ≡ whole
+    → after ≡ before ++ (codes " " ++ cert_text part) → before ++ texts_of (drop i parts) ≡ whole
+    → after ++ texts_of (drop (i + 1) parts) ≡ whole
 parts_more parts i part before after whole low at more so_far =
     let rest = texts_of (drop (i + 1) parts) in
     let here : drop i parts ≡ part ∷ drop (i + 1) parts = drop_more parts i part low ∙ ap (λ y. y ∷ drop (i + 1) parts) (sym at) in

@@ -1,5 +1,7 @@
 -- The rows that steps add have their numbers within the limit.
-use Rattle.std.proofs.Common.{◌≡◌, ◌↔◌, inl, inr, ◌&&◌, int_lt, ◌∙◌, refl, sym, ap, arith, subst, Bool, true, false, int_eq, get_or, ◌-◌, ◌<ℤ◌, ◌≤ℤ◌, ℕ, ◌+◌, ◌≤◌, ◌<◌, ◌^◌, ℤ, pos, zero, suc, List, [], ◌∷◌, ◌++◌, length, replicate, unsigned_abs, ap₂, nat_eq, take, map, length-append, slice_get, Option, Some, None, ◌-ℤ◌}
+use Rattle.std.proofs.Common.{◌≡◌, ◌↔◌, inl, inr, ◌&&◌, int_lt, ◌∙◌, refl, sym, ap, arith, subst, Bool, true, false, int_eq, get_or, ◌-◌}
+use Rattle.std.proofs.Common.{◌<ℤ◌, ◌≤ℤ◌, ℕ, ◌+◌, ◌≤◌, ◌<◌, ◌^◌, ℤ, pos, zero, suc, List, [], ◌∷◌, ◌++◌, length, replicate, unsigned_abs}
+use Rattle.std.proofs.Common.{ap₂, nat_eq, take, map, length-append, slice_get, Option, Some, None, ◌-ℤ◌}
 use Rattle.std.specs.Prelude.{IfErr, IfOk, IfSome, IsTrue, MatchOption, MatchResult, Result, Ok, Err}
 use Rattle.std.proofs.lemmas.Bool.{true≢false, eqb-true}
 use Rattle.std.proofs.lemmas.List.{append-nil, take_more}
@@ -8,7 +10,7 @@ use Rattle.std.proofs.lemmas.Grind.{flat_map-append}
 use Rattle.std.proofs.lemmas.List.FromFn.{length-map-range_with_len, get_or-map-range_with_len, map-range_with_len_more}
 use Rattle.std.specs.List.{All, Any, range_with_len}
 use Rattle.std.proofs.lemmas.Bool.Decides.{Decides-int_eq}
-use Rattle.std.proofs.lemmas.List.Elements.{All-nil, All-cons, All-head, All-tail, All-push, All-weaker, All-append}
+use Rattle.std.proofs.lemmas.List.Elements.{All-nil, All-cons, All-push, All-weaker, All-append}
 use Rattle.isl_math.specs.Divide.{floor_mod}
 use Rattle.isl_math.proofs.DivideLaws.{floor_mod-from_IsRemainder}
 use Rattle.isl_math.proofs.ListLaws.{Any-first, Any-later, Any-left, Any-right, Any-weaker}
@@ -125,7 +127,8 @@ large_no m k above less = by (int_lt (pos 1) k)
 pub multiple_told : (m k z : ℤ) (b : Bool) → pos 1 <ℤ k → z ≡ floor_mod m k → IsTrue b ↔ (z ≡ pos 0)
     → b ≡ (int_lt (pos 1) k && int_eq (floor_mod m k) (pos 0))
 multiple_told m k z b above is told =
-    by b (int_eq (floor_mod m k) (pos 0)) refl refl ∙ sym (ap (λ c. c && int_eq (floor_mod m k) (pos 0)) (int_lt-true (pos 1) k (omega (arith, linear))))
+    by b (int_eq (floor_mod m k) (pos 0)) refl refl ∙ sym
+    (ap (λ c. c && int_eq (floor_mod m k) (pos 0)) (int_lt-true (pos 1) k (omega (arith, linear))))
   where
     by : (c d : Bool) → b ≡ c → int_eq (floor_mod m k) (pos 0) ≡ d → b ≡ int_eq (floor_mod m k) (pos 0)
     by true true e f = e ∙ sym f
@@ -176,7 +179,8 @@ padded_out g n r o = record {
 
 -- ---- negations
 pub negation_told : (g h : Gauge) (n : ℕ) (r whole : Row) (result : Result (List Row) Cut) → whole ≡ padded n r
-    → MatchResult result (λ rows. (rows ≡ negation_of whole) × (h ≡ g)) (λ cut. IsCutFor (ConstantPassesLimit g (negation_of whole)) g h cut)
+    → MatchResult result (λ rows. (rows ≡ negation_of whole) × (h ≡ g))
+    (λ cut. IsCutFor (ConstantPassesLimit g (negation_of whole)) g h cut)
     → IfOk result (All (IsRowWithin g))
     → MatchResult result (λ made. (made ≡ negation_of (padded n r)) × All (IsRowWithin g) made × (h ≡ g))
     (IsCutFor (Any (RowPasses g.bits) (negation_of (padded n r))) g h)
@@ -204,7 +208,8 @@ sums_at bits a b [] ys i x y low same p q h = absurd (omega (arith, low))
 sums_at bits a b (u ∷ xs) [] i x y low same p q h = absurd (omega (arith, same))
 sums_at bits a b (u ∷ xs) (v ∷ ys) zero x y low same p q h =
     inl (subst (λ (z : ℤ). SumPasses bits a z b v) p (subst (λ (z : ℤ). SumPasses bits a x b z) q h))
-sums_at bits a b (u ∷ xs) (v ∷ ys) (suc i) x y low same p q h = inr (sums_at bits a b xs ys i x y (omega (arith, low)) (omega (arith, same)) p q h)
+sums_at bits a b (u ∷ xs) (v ∷ ys) (suc i) x y low same p q h = inr
+    (sums_at bits a b xs ys i x y (omega (arith, low)) (omega (arith, same)) p q h)
 
 pub sums_cut : (g m h : Gauge) (a b : ℤ) (xs ys : List ℤ) (i : ℕ) (x y : ℤ) → i < length xs → length xs ≡ length ys → x ≡ get_or xs i x
     → y ≡ get_or ys i y → m ≡ g → SumPasses m.bits a x b y → h ≡ overflown m → IsCutFor (SumsPass g.bits a xs b ys) g h Overflow
@@ -216,7 +221,8 @@ sums_cut g m h a b xs ys i x y low wide p q same passes over = (
 pub sum_at_cut : (g h : Gauge) (rows : List Row) (i : ℕ) (a : ℤ) (j : ℕ) (b : ℤ) (r s : Row) (cut : Cut) → slice_get rows i ≡ Some r
     → slice_get rows j ≡ Some s → IsCutFor (RowSumPasses g.bits a b r s) g h cut → IsCutFor (SumAtPasses g.bits rows i a j b) g h cut
 sum_at_cut g h rows i a j b r s cut p q e =
-    subst (λ (o : Option Row). IsCutFor (MatchOption o ⊥ (λ u. MatchOption (slice_get rows j) ⊥ (λ v. RowSumPasses g.bits a b u v))) g h cut) (sym p)
+    subst (λ (o : Option Row). IsCutFor (MatchOption o ⊥ (λ u. MatchOption (slice_get rows j) ⊥ (λ v. RowSumPasses g.bits a b u v))) g h
+    cut) (sym p)
     (subst (λ (o : Option Row). IsCutFor (MatchOption o ⊥ (λ v. RowSumPasses g.bits a b r v)) g h cut) (sym q) e)
 
 -- ---- rows of outs, one after another
@@ -294,7 +300,8 @@ some_residue : (P : Row → Type 0) (form : Form) (k : ℤ) (rest : ℕ) → res
     → P (congruence form.coefs (form.constant -ℤ pos rest) k) → Any P (residue_rows form k)
 some_residue P form k rest low p =
     any_at P (residue_rows form k) rest (congruence form.coefs (form.constant -ℤ pos rest) k)
-    (let l = length-map-range_with_len (λ (r : ℕ). congruence form.coefs (form.constant -ℤ pos r) k) 0 (unsigned_abs k) in omega (arith, l, low))
+    (let l = length-map-range_with_len (λ (r : ℕ). congruence form.coefs (form.constant -ℤ pos r) k) 0 (unsigned_abs k) in omega
+    (arith, l, low))
     (sym (get_or-map-range_with_len (λ (r : ℕ). congruence form.coefs (form.constant -ℤ pos r) k) 0 (unsigned_abs k) rest rest
     (congruence form.coefs (form.constant -ℤ pos rest) k) low (omega arith))) p
 
@@ -322,14 +329,16 @@ residues_more form k rest before z row number is so_far =
     ∙ sym (map-range_with_len_more (λ (r : ℕ). congruence form.coefs (form.constant -ℤ pos r) k) 0 rest rest (omega arith))
 
 pub residues_end : (form : Form) (k : ℤ) (count rest : ℕ) (rows : List Row) → k ≡ pos count → rest ≡ count
-    → rows ≡ map (λ (r : ℕ). congruence form.coefs (form.constant -ℤ pos r) (pos count)) (range_with_len 0 rest) → rows ≡ residue_rows form k
+    → rows ≡ map (λ (r : ℕ). congruence form.coefs (form.constant -ℤ pos r) (pos count)) (range_with_len 0 rest)
+    → rows ≡ residue_rows form k
 residues_end form k count rest rows is last so_far =
     so_far
     ∙ ap (λ (c : ℕ). map (λ (r : ℕ). congruence form.coefs (form.constant -ℤ pos r) (pos count)) (range_with_len 0 c)) last
     ∙ ap (λ (z : ℤ). residue_rows form z) (sym is)
 
 -- ---- what loops keep
-pub rows_before : (g m h : Gauge) (n : ℕ) (rows : List Row) (i : ℕ) (r : Row) (made own new : List Row) → i < length rows → r ≡ get_or rows i r
+pub rows_before : (g m h : Gauge) (n : ℕ) (rows : List Row) (i : ℕ) (r : Row) (made own new : List Row) → i < length rows
+    → r ≡ get_or rows i r
     → made ≡ negations n (take i rows) → All (IsRowWithin g) made → m ≡ g → own ≡ negation_of (padded n r) → All (IsRowWithin m) own → h ≡ m
     → new ≡ made ++ own
     → (new ≡ negations n (take (i + 1) rows)) × All (IsRowWithin g) new × (h ≡ g)
@@ -344,7 +353,8 @@ pub residues_before : (g m h : Gauge) (form : Form) (k l : ℤ) (rest : ℕ) (ro
     → z ≡ pos rest
     → rows ≡ map (λ (r : ℕ). congruence form.coefs (form.constant -ℤ pos r) k) (range_with_len 0 rest) → All (IsRowWithin g) rows → m ≡ g
     → row ≡ congruence form.coefs (form.constant -ℤ z) l → IsRowWithin m row → h ≡ m → new ≡ rows ++ row ∷ []
-    → (new ≡ map (λ (r : ℕ). congruence form.coefs (form.constant -ℤ pos r) k) (range_with_len 0 (rest + 1))) × All (IsRowWithin g) new × (h ≡ g)
+    → (new ≡ map (λ (r : ℕ). congruence form.coefs (form.constant -ℤ pos r) k) (range_with_len 0 (rest + 1))) × All (IsRowWithin g) new
+    × (h ≡ g)
 residues_before g m h form k l rest rows z row new own number so_far within same is fits kept more = (
   more ∙ residues_more form k rest rows z row number (is ∙ ap (λ (y : ℤ). congruence form.coefs (form.constant -ℤ z) y) own) so_far,
   subst (All (IsRowWithin g)) (sym more)
@@ -354,12 +364,14 @@ residues_before g m h form k l rest rows z row new own number so_far within same
 
 pub sum_at_cuts : (g h : Gauge) (rows : List Row) (i : ℕ) (a c : ℤ) (j : ℕ) (b d : ℤ) (r s : Row) (result : Result (Option Row) Cut)
     → c ≡ a → d ≡ b → slice_get rows i ≡ Some r → slice_get rows j ≡ Some s
-    → MatchResult result (λ made. (made ≡ sum_row c d r s) × IfSome made (IsRowWithin g) × (h ≡ g)) (IsCutFor (RowSumPasses g.bits c d r s) g h)
+    → MatchResult result (λ made. (made ≡ sum_row c d r s) × IfSome made (IsRowWithin g) × (h ≡ g))
+    (IsCutFor (RowSumPasses g.bits c d r s) g h)
     → IfErr result (IsCutFor (SumAtPasses g.bits rows i a j b) g h)
 sum_at_cuts g h rows i a c j b d r s (Ok made) one two p q e = tt
 sum_at_cuts g h rows i a c j b d r s (Err cut) one two p q e =
     sum_at_cut g h rows i a j b r s cut p q
-    (subst (λ (y : ℤ). IsCutFor (RowSumPasses g.bits y b r s) g h cut) one (subst (λ (z : ℤ). IsCutFor (RowSumPasses g.bits c z r s) g h cut) two e))
+    (subst (λ (y : ℤ). IsCutFor (RowSumPasses g.bits y b r s) g h cut) one
+    (subst (λ (z : ℤ). IsCutFor (RowSumPasses g.bits c z r s) g h cut) two e))
 
 pub numbers_before : (g m h : Gauge) (xs : List ℤ) (i : ℕ) (made : List ℤ) (z : ℤ) (new : List ℤ) → i < length xs → made ≡ take i xs
     → All (IsWithin g) made → m ≡ g → z ≡ get_or xs i (pos 0) → IsWithin m z → h ≡ m → new ≡ made ++ z ∷ []

@@ -1,7 +1,8 @@
 -- public: proofs as text: the word, the numbers and the parts of each node, with single blanks between them.
 use Rattle.std.specs.Prelude.{ℕ, ℤ, List, [], ◌∷◌, ◌++◌, codes}
 use Rattle.std.specs.Fmt.{decimal, signed_decimal}
-use Rattle.isl_refute.specs.declared.tree.Cert.{Cert, False, Add', Tie', Mod', Weaken', Fresh', Split', Residue', Outside', Row_of-Cert, end_of-Cert, more_of-Cert}
+use Rattle.isl_refute.specs.declared.tree.Cert.{Cert, False, Add', Tie', Mod', Weaken', Fresh', Split', Residue', Outside', Row_of-Cert}
+use Rattle.isl_refute.specs.declared.tree.Cert.{end_of-Cert, more_of-Cert}
 use Rattle.isl_refute.specs.declared.tree.Form.{Form}
 
 abbrev pub place_text : ℕ → List ℕ

@@ -1,8 +1,8 @@
 -- inner: what checking a part of a proof leaves.
-use Rattle.std.specs.Prelude.{◌≡◌, ◌≤◌, Bool, ℕ, All, length, Result, MatchResult}
+use Rattle.std.specs.Prelude.{◌≡◌, ◌<◌, ◌≤◌, ◌+◌, ◌-◌, Bool, ℕ, All, length, Result, MatchResult}
 use Rattle.isl_meter.specs.Gauge.{Gauge, IsCutBy}
 use Rattle.isl_meter.specs.declared.Cut.{Cut}
-use Rattle.isl_meter.specs.declared.Cut.TheVariants.{Overflow}
+use Rattle.isl_meter.specs.declared.Cut.TheVariants.{Overflow, Budget}
 use Rattle.isl_piece.specs.declared.row.Row.{Row}
 use Rattle.isl_piece.specs.declared.row.RowKind.{RowKind}
 use Rattle.isl_piece.specs.declared.row.RowKind.TheVariants.{Zero, AtLeast, Divides, NotDivides}
@@ -31,10 +31,13 @@ negation_count AtLeast = 1
 negation_count Divides = 1
 negation_count NotDivides = 1
 
--- work was cut, for an overflow only where P
-pub record IsCutOnly (P : Type 0) (old new : Gauge) (cut : Cut) : Type 0 where
+-- work was cut after at most so many units, and one at least was left of them where the budget was used up; for an overflow only where P
+-- of the number of units
+pub record IsCutOnly (P : ℕ → Type 0) (count : ℕ) (old new : Gauge) (cut : Cut) : Type 0 where
   pub by : IsCutBy old new cut
-  pub overflow : cut ≡ Overflow → P
+  pub most : new.units ≤ old.units + count
+  pub budget : cut ≡ Budget → new.units < old.units + count
+  pub overflow : cut ≡ Overflow → P (new.units - old.units)
 
-abbrev pub IsChecked : Gauge → Gauge → Bool → ℕ → Type 0 → Result Bool Cut → Type 0
-IsChecked old new says count P result = MatchResult result (λ b. (b ≡ says) × IsCounted old new b count) (IsCutOnly P old new)
+abbrev pub IsChecked : Gauge → Gauge → Bool → ℕ → (ℕ → Type 0) → Result Bool Cut → Type 0
+IsChecked old new says count P result = MatchResult result (λ b. (b ≡ says) × IsCounted old new count) (IsCutOnly P count old new)

@@ -1,4 +1,5 @@
 pub mod Refutes
+pub mod Visited
 pub mod Passes
 pub mod CertText
 pub mod Parts

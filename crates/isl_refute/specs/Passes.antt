@@ -1,36 +1,43 @@
 -- public: how many nodes a proof has, and where a number that it asks for passes the limit of so many bits: a product or a sum, or a
 -- number of a row that a node adds.
-use Rattle.std.specs.Prelude.{◌≡◌, ◌≤◌, ◌⊎◌, Bool, true, false, ℕ, ◌+◌, ◌<◌, ◌^◌, ℤ, pos, ◌+ℤ◌, ◌*ℤ◌, int_lt, unsigned_abs, List, [], ◌∷◌, Any, map, MatchOption, slice_get}
+use Rattle.std.specs.Prelude.{◌≡◌, ◌⊎◌, true, ℕ, ◌+◌, ◌-◌, ◌<◌, ◌^◌, ℤ, pos, ◌+ℤ◌, ◌*ℤ◌, int_lt, unsigned_abs, List, [], ◌∷◌}
+use Rattle.std.specs.Prelude.{Any, map, MatchOption, slice_get}
 use Rattle.isl_meter.specs.Gauge.{Gauge, IsCharged}
 use Rattle.isl_piece.specs.declared.row.Row.{Row}
 use Rattle.isl_piece.specs.Negation.{below}
 use Rattle.isl_piece.specs.Normal.{bound}
 use Rattle.isl_piece.specs.System.{widened}
-use Rattle.isl_refute.specs.declared.tree.Cert.{Cert, False, Add', Tie', Mod', Weaken', Fresh', Split', Residue', Outside', Row_of-Cert, end_of-Cert, more_of-Cert}
-use Rattle.isl_refute.specs.Refutes.{and_row, fresh_row, is_over, mod_row, negations, residue_rows, sum_row, tie_row, weaken_row, with_both, with_one}
+use Rattle.isl_refute.specs.declared.tree.Cert.{Cert, False, Add', Tie', Mod', Weaken', Fresh', Split', Residue', Outside', Row_of-Cert}
+use Rattle.isl_refute.specs.declared.tree.Cert.{end_of-Cert, more_of-Cert}
+use Rattle.isl_refute.specs.Refutes.{and_row, fresh_row, is_over, mod_row, negations, refutes, refutes_in, residue_rows, sum_row, tie_row}
+use Rattle.isl_refute.specs.Refutes.{weaken_row, with_both, with_one}
+use Rattle.isl_refute.specs.Visited.{fits, visited, visited_in}
 
 -- ---- nodes
 abbrev mutual
   pub nodes : Cert → ℕ
   nodes (False i) = 1
-  nodes (Add' i a j b s part) = 1 + nodes_each part
-  nodes (Tie' i j s part) = 1 + nodes_each part
-  nodes (Mod' i k s part) = 1 + nodes_each part
-  nodes (Weaken' i k s part) = 1 + nodes_each part
-  nodes (Fresh' i s part) = 1 + nodes_each part
-  nodes (Split' form s up t down) = 1 + (nodes_each up + nodes_each down)
+  nodes (Add' i a j b s part) = 1 + nodes_in part
+  nodes (Tie' i j s part) = 1 + nodes_in part
+  nodes (Mod' i k s part) = 1 + nodes_in part
+  nodes (Weaken' i k s part) = 1 + nodes_in part
+  nodes (Fresh' i s part) = 1 + nodes_in part
+  nodes (Split' form s up t down) = 1 + (nodes_in up + nodes_in down)
   nodes (Residue' form k s parts) = 1 + nodes_each parts
   nodes (Outside' q s parts) = 1 + nodes_each parts
+
+  pub nodes_in : {m : _} → Row_of-Cert m → ℕ
+  nodes_in end_of-Cert = 0
+  nodes_in (more_of-Cert cert rest) = nodes cert
 
   pub nodes_each : {m : _} → Row_of-Cert m → ℕ
   nodes_each end_of-Cert = 0
   nodes_each (more_of-Cert cert rest) = nodes cert + nodes_each rest
 
--- units alone were used, at most one for each of so many nodes, and one for each where the answer is yes
-pub record IsCounted (old new : Gauge) (says : Bool) (count : ℕ) : Type 0 where
+-- so many units were used, and nothing else happened
+pub record IsCounted (old new : Gauge) (count : ℕ) : Type 0 where
   pub charged : IsCharged old new
-  pub most : new.units ≤ old.units + count
-  pub whole : says ≡ true → new.units ≡ old.units + count
+  pub units : new.units ≡ old.units + count
 
 -- ---- numbers past the limit
 abbrev pub Above : ℕ → ℤ → Type 0
@@ -57,44 +64,47 @@ RowSumPasses bits a b r s =
 abbrev pub SumAtPasses : ℕ → List Row → ℕ → ℤ → ℕ → ℤ → Type 0
 SumAtPasses bits rows i a j b = MatchOption (slice_get rows i) ⊥ (λ r. MatchOption (slice_get rows j) ⊥ (λ s. RowSumPasses bits a b r s))
 
--- there are as many parts as rows
-abbrev pub fits : {m : _} → List Row → Row_of-Cert m → Bool
-fits [] end_of-Cert = true
-fits [] (more_of-Cert cert rest) = false
-fits (r ∷ more) end_of-Cert = false
-fits (r ∷ more) (more_of-Cert cert rest) = fits more rest
-
 abbrev mutual
-  -- so in a node of the proof, where the conditions of the nodes on the way to it are met
-  pub Passes : ℕ → List (List Row) → ℕ → List Row → Cert → Type 0
-  Passes bits outs n rows (False i) = ⊥
-  Passes bits outs n rows (Add' i a j b s part) =
-      SumAtPasses bits rows i a j b
-      ⊎ MatchOption (with_both (slice_get rows i) (slice_get rows j) (sum_row a b)) ⊥ (λ r. PassesIn bits outs n (and_row rows r) part)
-  Passes bits outs n rows (Tie' i j s part) =
-      MatchOption (with_both (slice_get rows i) (slice_get rows j) tie_row) ⊥ (λ r. PassesIn bits outs n (and_row rows r) part)
-  Passes bits outs n rows (Mod' i k s part) =
-      MatchOption (with_one (slice_get rows i) (mod_row k)) ⊥ (λ r. RowPasses bits r ⊎ PassesIn bits outs n (and_row rows r) part)
-  Passes bits outs n rows (Weaken' i k s part) =
-      MatchOption (with_one (slice_get rows i) (weaken_row k)) ⊥ (λ r. PassesIn bits outs n (and_row rows r) part)
-  Passes bits outs n rows (Fresh' i s part) =
-      MatchOption (with_one (slice_get rows i) fresh_row) ⊥ (λ r. PassesIn bits outs (n + 1) (and_row (map widened rows) r) part)
-  Passes bits outs n rows (Split' form s up t down) =
+  -- so in the node that is looked at as number m, from 1 on: a node asks for its numbers before any part of it is looked at
+  pub Passes : ℕ → List (List Row) → ℕ → List Row → Cert → ℕ → Type 0
+  Passes bits outs n rows (False i) m = ⊥
+  Passes bits outs n rows (Add' i a j b s part) m =
+      ((m ≡ 1) × SumAtPasses bits rows i a j b)
+      ⊎ MatchOption (with_both (slice_get rows i) (slice_get rows j) (sum_row a b)) ⊥
+      (λ r. PassesIn bits outs n (and_row rows r) part (m - 1))
+  Passes bits outs n rows (Tie' i j s part) m =
+      MatchOption (with_both (slice_get rows i) (slice_get rows j) tie_row) ⊥ (λ r. PassesIn bits outs n (and_row rows r) part (m - 1))
+  Passes bits outs n rows (Mod' i k s part) m =
+      MatchOption (with_one (slice_get rows i) (mod_row k)) ⊥
+      (λ r. ((m ≡ 1) × RowPasses bits r) ⊎ PassesIn bits outs n (and_row rows r) part (m - 1))
+  Passes bits outs n rows (Weaken' i k s part) m =
+      MatchOption (with_one (slice_get rows i) (weaken_row k)) ⊥ (λ r. PassesIn bits outs n (and_row rows r) part (m - 1))
+  Passes bits outs n rows (Fresh' i s part) m =
+      MatchOption (with_one (slice_get rows i) fresh_row) ⊥
+      (λ r. PassesIn bits outs (n + 1) (and_row (map widened rows) r) part (m - 1))
+  Passes bits outs n rows (Split' form s up t down) m =
       (is_over n form ≡ true)
-      × ((RowPasses bits (bound form.coefs form.constant) ⊎ PassesIn bits outs n (and_row rows (bound form.coefs form.constant)) up)
-      ⊎ (RowPasses bits (below form.coefs form.constant) ⊎ PassesIn bits outs n (and_row rows (below form.coefs form.constant)) down))
-  Passes bits outs n rows (Residue' form k s parts) =
+      × (((m ≡ 1) × (RowPasses bits (bound form.coefs form.constant) ⊎ RowPasses bits (below form.coefs form.constant)))
+      ⊎ (PassesIn bits outs n (and_row rows (bound form.coefs form.constant)) up (m - 1)
+      ⊎ ((refutes_in outs n (and_row rows (bound form.coefs form.constant)) up ≡ true)
+      × PassesIn bits outs n (and_row rows (below form.coefs form.constant)) down
+      ((m - 1) - visited_in outs n (and_row rows (bound form.coefs form.constant)) up))))
+  Passes bits outs n rows (Residue' form k s parts) m =
       (is_over n form ≡ true) × (int_lt (pos 1) k ≡ true) × (fits (residue_rows form k) parts ≡ true)
-      × PassesEach bits outs n rows (residue_rows form k) parts
-  Passes bits outs n rows (Outside' q s parts) =
-      MatchOption (slice_get outs q) ⊥ (λ out. (fits (negations n out) parts ≡ true) × PassesEach bits outs n rows (negations n out) parts)
+      × (((m ≡ 1) × Any (RowPasses bits) (residue_rows form k)) ⊎ PassesEach bits outs n rows (residue_rows form k) parts (m - 1))
+  Passes bits outs n rows (Outside' q s parts) m =
+      MatchOption (slice_get outs q) ⊥ (λ out. (fits (negations n out) parts ≡ true)
+      × (((m ≡ 1) × Any (RowPasses bits) (negations n out)) ⊎ PassesEach bits outs n rows (negations n out) parts (m - 1)))
 
-  pub PassesIn : {m : _} → ℕ → List (List Row) → ℕ → List Row → Row_of-Cert m → Type 0
-  PassesIn bits outs n rows end_of-Cert = ⊥
-  PassesIn bits outs n rows (more_of-Cert cert rest) = Passes bits outs n rows cert
+  pub PassesIn : {m : _} → ℕ → List (List Row) → ℕ → List Row → Row_of-Cert m → ℕ → Type 0
+  PassesIn bits outs n rows end_of-Cert m = ⊥
+  PassesIn bits outs n rows (more_of-Cert cert rest) m = Passes bits outs n rows cert m
 
-  pub PassesEach : {m : _} → ℕ → List (List Row) → ℕ → List Row → List Row → Row_of-Cert m → Type 0
-  PassesEach bits outs n rows [] parts = ⊥
-  PassesEach bits outs n rows (r ∷ more) end_of-Cert = ⊥
-  PassesEach bits outs n rows (r ∷ more) (more_of-Cert cert rest) =
-      (RowPasses bits r ⊎ Passes bits outs n (and_row rows r) cert) ⊎ PassesEach bits outs n rows more rest
+  -- in a part, and all parts before it refute
+  pub PassesEach : {m : _} → ℕ → List (List Row) → ℕ → List Row → List Row → Row_of-Cert m → ℕ → Type 0
+  PassesEach bits outs n rows [] parts m = ⊥
+  PassesEach bits outs n rows (r ∷ more) end_of-Cert m = ⊥
+  PassesEach bits outs n rows (r ∷ more) (more_of-Cert cert rest) m =
+      Passes bits outs n (and_row rows r) cert m
+      ⊎ ((refutes outs n (and_row rows r) cert ≡ true)
+      × PassesEach bits outs n rows more rest (m - visited outs n (and_row rows r) cert))

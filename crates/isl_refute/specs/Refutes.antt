@@ -1,6 +1,7 @@
--- public: proofs that no whole point makes all rows of a system hold and none of its outs: what each step of a proof asks, and what it adds.
+-- public: proofs that no whole point makes all rows of a system hold and none of its outs: what each step asks, and what it adds.
 -- (Farkas' lemma on sums of bounds; Pugh, the Omega test, on the steps of whole numbers)
-use Rattle.std.specs.Prelude.{◌≡◌, All, Bool, true, false, ◌&&◌, not, if◌then◌else◌, int_lt, nat_eq, ℕ, ◌+◌, ◌-◌, ℤ, pos, negsuc, neg_ℤ, ◌+ℤ◌, ◌-ℤ◌, ◌*ℤ◌, List, [], ◌∷◌, ◌++◌, map, length, replicate, Option, Some, None, slice_get, unsigned_abs}
+use Rattle.std.specs.Prelude.{◌≡◌, All, Bool, true, false, ◌&&◌, not, if◌then◌else◌, int_lt, nat_eq, ℕ, ◌+◌, ◌-◌, ℤ, pos, negsuc, neg_ℤ}
+use Rattle.std.specs.Prelude.{◌+ℤ◌, ◌-ℤ◌, ◌*ℤ◌, List, [], ◌∷◌, ◌++◌, map, length, replicate, Option, Some, None, slice_get, unsigned_abs}
 use Rattle.std.specs.List.{list_all, flat_map, range_with_len}
 use Rattle.std.specs.Cmp.Lexicographic.{pointwise}
 use Rattle.std.specs.Ordering.{int_eq}
@@ -13,7 +14,8 @@ use Rattle.isl_piece.specs.Negation.{below, negation_of}
 use Rattle.isl_piece.specs.Normal.{Verdict, Always, Never, Kept, normal_row, bound, congruence}
 use Rattle.isl_piece.specs.System.{HoldsSystem, widened}
 use Rattle.isl_piece.specs.declared.system.System.{System}
-use Rattle.isl_refute.specs.declared.tree.Cert.{Cert, False, Add', Tie', Mod', Weaken', Fresh', Split', Residue', Outside', Row_of-Cert, end_of-Cert, more_of-Cert}
+use Rattle.isl_refute.specs.declared.tree.Cert.{Cert, False, Add', Tie', Mod', Weaken', Fresh', Split', Residue', Outside', Row_of-Cert}
+use Rattle.isl_refute.specs.declared.tree.Cert.{end_of-Cert, more_of-Cert}
 use Rattle.isl_refute.specs.declared.tree.Form.{Form}
 
 -- ---- the normal form of one row, which stands even where it is constant
@@ -129,7 +131,8 @@ equality cs c = record { kind = Zero; coefs = cs; constant = c; k = pos 1 }
 -- two bounds of which one has the other's negative as its form: that form is 0
 abbrev pub tie_row : Row → Row → Option Row
 tie_row r s =
-    if is_bound r.kind && (is_bound s.kind && (pointwise int_eq s.coefs (scaled (negsuc 0) r.coefs) && int_eq s.constant (neg_ℤ r.constant)))
+    if is_bound r.kind
+    && (is_bound s.kind && (pointwise int_eq s.coefs (scaled (negsuc 0) r.coefs) && int_eq s.constant (neg_ℤ r.constant)))
     then Some (equality r.coefs r.constant)
     else None
 
@@ -176,15 +179,18 @@ abbrev mutual
       where_some (with_both (slice_get rows i) (slice_get rows j) (sum_row a b)) (λ r. refutes_in outs n (and_row rows r) part)
   refutes outs n rows (Tie' i j s part) =
       where_some (with_both (slice_get rows i) (slice_get rows j) tie_row) (λ r. refutes_in outs n (and_row rows r) part)
-  refutes outs n rows (Mod' i k s part) = where_some (with_one (slice_get rows i) (mod_row k)) (λ r. refutes_in outs n (and_row rows r) part)
+  refutes outs n rows (Mod' i k s part) =
+      where_some (with_one (slice_get rows i) (mod_row k)) (λ r. refutes_in outs n (and_row rows r) part)
   refutes outs n rows (Weaken' i k s part) =
       where_some (with_one (slice_get rows i) (weaken_row k)) (λ r. refutes_in outs n (and_row rows r) part)
   refutes outs n rows (Fresh' i s part) =
       where_some (with_one (slice_get rows i) fresh_row) (λ r. refutes_in outs (n + 1) (and_row (map widened rows) r) part)
   refutes outs n rows (Split' form s up t down) =
       is_over n form
-      && (refutes_in outs n (and_row rows (bound form.coefs form.constant)) up && refutes_in outs n (and_row rows (below form.coefs form.constant)) down)
-  refutes outs n rows (Residue' form k s parts) = is_over n form && (int_lt (pos 1) k && refutes_each outs n rows (residue_rows form k) parts)
+      && (refutes_in outs n (and_row rows (bound form.coefs form.constant)) up
+      && refutes_in outs n (and_row rows (below form.coefs form.constant)) down)
+  refutes outs n rows (Residue' form k s parts) =
+      is_over n form && (int_lt (pos 1) k && refutes_each outs n rows (residue_rows form k) parts)
   refutes outs n rows (Outside' q s parts) = where_some (slice_get outs q) (λ out. refutes_each outs n rows (negations n out) parts)
 
   -- a part in a box is a row of one

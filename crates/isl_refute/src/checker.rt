@@ -1,15 +1,16 @@
 //! The checker.
 
-ghost use Rattle.std.specs.Prelude.{◌≡◌, ◌&&◌, ◌⊎◌, ◌+◌, ◌-◌, [], true, length, map, pos, int_lt, All, IfErr, IfOk, IfSome, IsTrue, OnOk, MatchOption, option_map, slice_get};
+ghost use Rattle.std.specs.Prelude.{◌≡◌, ◌≤◌, ◌<◌, ◌&&◌, ◌⊎◌, ◌+◌, ◌-◌, if◌then◌else◌, [], true, length, map, pos, int_lt};
+ghost use Rattle.std.specs.Prelude.{All, IfErr, IfOk, IfSome, IsTrue, OnOk, MatchOption, MatchResult, option_map, slice_get};
 ghost use Rattle.isl_meter.specs.Gauge.{IsMetered};
-ghost use Rattle.isl_meter.specs.declared.Cut.TheVariants.{Overflow};
-ghost use Rattle.isl_piece.specs.Negation.{below};
-ghost use Rattle.isl_piece.specs.Normal.{bound};
+ghost use Rattle.isl_meter.specs.declared.Cut.TheVariants.{Overflow, Budget};
 ghost use Rattle.isl_piece.specs.System.{widened, IsSystemWithin};
 ghost use Rattle.isl_refute.specs.Checked.{IsChecked, IsFact, IsOut};
-ghost use Rattle.isl_refute.specs.Parts.{nodes_of, refute_all, SomePass};
-ghost use Rattle.isl_refute.specs.Passes.{nodes, IsCounted, Passes, RowPasses};
-ghost use Rattle.isl_refute.specs.Refutes.{and_row, is_over, negations, refutes, residue_rows, rows_of, where_some, HasNoneOutside};
+ghost use Rattle.isl_refute.specs.Parts.{refute_all, residues_refute, sides_refute, visit_all, visit_outside, visit_residues, visit_sides};
+ghost use Rattle.isl_refute.specs.Parts.{OutsidePass, ResiduesPass, SidesPass, SomePass};
+ghost use Rattle.isl_refute.specs.Passes.{nodes, Passes};
+ghost use Rattle.isl_refute.specs.Refutes.{and_row, negations, refutes, rows_of, where_some, HasNoneOutside};
+ghost use Rattle.isl_refute.specs.Visited.{visited, where_count};
 
 use crate::added::{below, bound, has_negations, negations, residue_rows};
 use crate::facts::Facts;
@@ -32,7 +33,8 @@ fn with_row(
     requires outs { All (IsOut meter.old facts.old.columns) outs.now }
     requires row { IsFact meter.old facts.old.columns row.now }
     ensures checked { IsChecked meter.old meter.new
-        (refutes (map rows_of outs.now) facts.old.columns (and_row facts.old.rows row.now) part.now) (nodes part.now)
+        (refutes (map rows_of outs.now) facts.old.columns (and_row facts.old.rows row.now) part.now)
+        (visited (map rows_of outs.now) facts.old.columns (and_row facts.old.rows row.now) part.now)
         (Passes meter.old.bits (map rows_of outs.now) facts.old.columns (and_row facts.old.rows row.now) part.now) result }
     ensures facts { OnOk result (facts.new ≡ facts.old) }
 {
@@ -56,8 +58,10 @@ fn with_some(
     requires outs { All (IsOut meter.old facts.old.columns) outs.now }
     requires row { IfSome row (IsFact meter.old facts.old.columns) }
     ensures checked { IsChecked meter.old meter.new
-        (where_some row (λ r. refutes (map rows_of outs.now) facts.old.columns (and_row facts.old.rows r) part.now)) (nodes part.now)
-        (MatchOption row ⊥ (λ r. Passes meter.old.bits (map rows_of outs.now) facts.old.columns (and_row facts.old.rows r) part.now)) result }
+        (where_some row (λ r. refutes (map rows_of outs.now) facts.old.columns (and_row facts.old.rows r) part.now))
+        (where_count row (λ r. visited (map rows_of outs.now) facts.old.columns (and_row facts.old.rows r) part.now))
+        (λ m. MatchOption row ⊥ (λ r. Passes meter.old.bits (map rows_of outs.now) facts.old.columns (and_row facts.old.rows r) part.now m))
+        result }
     ensures facts { OnOk result (facts.new ≡ facts.old) }
 {
     match row {
@@ -80,8 +84,10 @@ fn with_column(
     requires outs { All (IsOut meter.old facts.now.columns) outs.now }
     requires row { IsFact meter.old (facts.now.columns + 1) row.now }
     ensures { IsChecked meter.old meter.new
-        (refutes (map rows_of outs.now) (facts.now.columns + 1) (and_row (map widened facts.now.rows) row.now) part.now) (nodes part.now)
-        (Passes meter.old.bits (map rows_of outs.now) (facts.now.columns + 1) (and_row (map widened facts.now.rows) row.now) part.now) result }
+        (refutes (map rows_of outs.now) (facts.now.columns + 1) (and_row (map widened facts.now.rows) row.now) part.now)
+        (visited (map rows_of outs.now) (facts.now.columns + 1) (and_row (map widened facts.now.rows) row.now) part.now)
+        (Passes meter.old.bits (map rows_of outs.now) (facts.now.columns + 1) (and_row (map widened facts.now.rows) row.now) part.now)
+        result }
 {
     let Some(columns) = facts.columns.checked_add(1) else {
         return Err(Cut::NoMemory);
@@ -105,7 +111,8 @@ fn with_each(
     requires rows { All (IsFact meter.old facts.old.columns) rows.now }
     requires length { length rows.now ≡ length parts.now }
     ensures checked { IsChecked meter.old meter.new
-        (refute_all (map rows_of outs.now) facts.old.columns facts.old.rows rows.now parts.now) (nodes_of parts.now)
+        (refute_all (map rows_of outs.now) facts.old.columns facts.old.rows rows.now parts.now)
+        (visit_all (map rows_of outs.now) facts.old.columns facts.old.rows rows.now parts.now)
         (SomePass meter.old.bits (map rows_of outs.now) facts.old.columns facts.old.rows rows.now parts.now) result }
     ensures facts { OnOk result (facts.new ≡ facts.old) }
 {
@@ -118,12 +125,13 @@ fn with_each(
     Ok(true)
 }
 
-// The part where the form is at least 0.
+// The parts where the form is at least 0, and where it is below.
 #[cycle(check)]
-fn up_side(
+fn sides(
     alloc: Global,
     form: &Form,
-    part: &Cert,
+    up: &Cert,
+    down: &Cert,
     facts: &mut Facts,
     outs: &[System],
     meter: &mut Meter,
@@ -132,42 +140,18 @@ fn up_side(
     requires outs { All (IsOut meter.old facts.old.columns) outs.now }
     requires over { length form.now.coefs ≡ facts.old.columns }
     ensures checked { IsChecked meter.old meter.new
-        (refutes (map rows_of outs.now) facts.old.columns (and_row facts.old.rows (bound form.now.coefs form.now.constant)) part.now)
-        (nodes part.now)
-        (RowPasses meter.old.bits (bound form.now.coefs form.now.constant)
-        ⊎ Passes meter.old.bits (map rows_of outs.now) facts.old.columns (and_row facts.old.rows (bound form.now.coefs form.now.constant)) part.now)
-        result }
-    ensures facts { OnOk result (facts.new ≡ facts.old) }
-{
-    let row = bound(alloc, form, meter)?;
-    with_row(alloc, &row, part, facts, outs, meter)
-}
-
-// The part where the form is below 0.
-#[cycle(check)]
-fn down_side(
-    alloc: Global,
-    form: &Form,
-    part: &Cert,
-    facts: &mut Facts,
-    outs: &[System],
-    meter: &mut Meter,
-) -> Result<bool, Cut>
-    requires facts { All (IsFact meter.old facts.old.columns) facts.old.rows }
-    requires outs { All (IsOut meter.old facts.old.columns) outs.now }
-    requires over { length form.now.coefs ≡ facts.old.columns }
-    ensures checked { IsChecked meter.old meter.new
-        (refutes (map rows_of outs.now) facts.old.columns (and_row facts.old.rows (below form.now.coefs form.now.constant)) part.now)
-        (nodes part.now)
-        (RowPasses meter.old.bits (bound form.now.coefs form.now.constant)
-        ⊎ (RowPasses meter.old.bits (below form.now.coefs form.now.constant)
-        ⊎ Passes meter.old.bits (map rows_of outs.now) facts.old.columns (and_row facts.old.rows (below form.now.coefs form.now.constant)) part.now))
-        result }
+        (sides_refute (map rows_of outs.now) facts.old.columns facts.old.rows form.now up.now down.now)
+        (visit_sides (map rows_of outs.now) facts.old.columns facts.old.rows form.now up.now down.now)
+        (SidesPass meter.old.bits (map rows_of outs.now) facts.old.columns facts.old.rows form.now up.now down.now) result }
     ensures facts { OnOk result (facts.new ≡ facts.old) }
 {
     let row = bound(alloc, form, meter)?;
     let opposite = below(alloc, &row, meter)?;
-    with_row(alloc, &opposite, part, facts, outs, meter)
+    let yes = with_row(alloc, &row, up, facts, outs, meter)?;
+    if !yes {
+        return Ok(false);
+    }
+    with_row(alloc, &opposite, down, facts, outs, meter)
 }
 
 // A part for each number that the form may leave.
@@ -184,10 +168,9 @@ fn residues(
     requires facts { All (IsFact meter.old facts.old.columns) facts.old.rows }
     requires outs { All (IsOut meter.old facts.old.columns) outs.now }
     ensures checked { IsChecked meter.old meter.new
-        (is_over facts.old.columns form.now && (int_lt (pos 1) k
-        && refute_all (map rows_of outs.now) facts.old.columns facts.old.rows (residue_rows form.now k) parts.now)) (nodes_of parts.now)
-        ((is_over facts.old.columns form.now ≡ true) × (int_lt (pos 1) k ≡ true) × (length (residue_rows form.now k) ≡ length parts.now)
-        × SomePass meter.old.bits (map rows_of outs.now) facts.old.columns facts.old.rows (residue_rows form.now k) parts.now) result }
+        (residues_refute (map rows_of outs.now) facts.old.columns facts.old.rows form.now k parts.now)
+        (visit_residues (map rows_of outs.now) facts.old.columns facts.old.rows form.now k parts.now)
+        (ResiduesPass meter.old.bits (map rows_of outs.now) facts.old.columns facts.old.rows form.now k parts.now) result }
     ensures facts { OnOk result (facts.new ≡ facts.old) }
 {
     let count = parts.len();
@@ -213,10 +196,8 @@ fn outside(
     requires out { IsOut meter.old facts.old.columns out.now }
     ensures checked { IsChecked meter.old meter.new
         (refute_all (map rows_of outs.now) facts.old.columns facts.old.rows (negations facts.old.columns out.now.rows) parts.now)
-        (nodes_of parts.now)
-        ((length (negations facts.old.columns out.now.rows) ≡ length parts.now)
-        × SomePass meter.old.bits (map rows_of outs.now) facts.old.columns facts.old.rows (negations facts.old.columns out.now.rows) parts.now)
-        result }
+        (visit_outside (map rows_of outs.now) facts.old.columns facts.old.rows out.now.rows parts.now)
+        (OutsidePass meter.old.bits (map rows_of outs.now) facts.old.columns facts.old.rows out.now.rows parts.now) result }
     ensures facts { OnOk result (facts.new ≡ facts.old) }
 {
     if !has_negations(facts.columns, out.rows.as_slice(), parts.len()) {
@@ -245,7 +226,8 @@ fn node(
     requires facts { All (IsFact meter.old facts.old.columns) facts.old.rows }
     requires outs { All (IsOut meter.old facts.old.columns) outs.now }
     ensures checked { IsChecked meter.old meter.new (refutes (map rows_of outs.now) facts.old.columns facts.old.rows cert.now)
-        (nodes cert.now - 1) (Passes meter.old.bits (map rows_of outs.now) facts.old.columns facts.old.rows cert.now) result }
+        (visited (map rows_of outs.now) facts.old.columns facts.old.rows cert.now - 1)
+        (λ m. Passes meter.old.bits (map rows_of outs.now) facts.old.columns facts.old.rows cert.now (1 + m)) result }
     ensures facts { OnOk result (facts.new ≡ facts.old) }
 {
     match cert {
@@ -274,11 +256,7 @@ fn node(
             if form.coefs.len() != facts.columns {
                 return Ok(false);
             }
-            let says = up_side(alloc, form, up.get(), facts, outs, meter)?;
-            if !says {
-                return Ok(false);
-            }
-            down_side(alloc, form, down.get(), facts, outs, meter)
+            sides(alloc, form, up.get(), down.get(), facts, outs, meter)
         }
         Cert::Residue(form, k, parts) => {
             residues(alloc, form, *k, parts.as_slice(), facts, outs, meter)
@@ -302,20 +280,21 @@ fn refute(
     requires facts { All (IsFact meter.old facts.old.columns) facts.old.rows }
     requires outs { All (IsOut meter.old facts.old.columns) outs.now }
     ensures checked { IsChecked meter.old meter.new (refutes (map rows_of outs.now) facts.old.columns facts.old.rows cert.now)
-        (nodes cert.now) (Passes meter.old.bits (map rows_of outs.now) facts.old.columns facts.old.rows cert.now) result }
+        (visited (map rows_of outs.now) facts.old.columns facts.old.rows cert.now)
+        (Passes meter.old.bits (map rows_of outs.now) facts.old.columns facts.old.rows cert.now) result }
     ensures facts { OnOk result (facts.new ≡ facts.old) }
 {
     meter.unit()?;
     node(alloc, cert, facts, outs, meter)
 }
 
-/// Whether the proof shows that no whole point makes the system hold and none of the outs. A unit is used for each node that is looked
-/// at, up to the first one that shows nothing.
+/// Whether the proof shows that no whole point makes the system hold and none of the outs. Exactly one unit is used for each node that is
+/// looked at: depth first, up to the first one that shows nothing.
 ///
 /// # Errors
 ///
-/// `Overflow` where a product or a sum that a node asks for, or a number of a row that it adds, passes the limit of the meter, `Budget`
-/// where its units are used up, and `NoMemory`.
+/// `Overflow` where a product or a sum that a node asks for, or a number of a row that it adds, passes the limit of the meter: that node
+/// is the last one looked at. `Budget` where its units are used up before all nodes are looked at, and `NoMemory`.
 pub fn check(
     alloc: Global,
     system: &System,
@@ -330,10 +309,22 @@ pub fn check(
     requires plain_outs { All (λ out. out.definitions ≡ []) outs.now }
     ensures exact { IfOk result (λ says. says ≡ refutes (map rows_of outs.now) system.now.columns system.now.rows cert.now) }
     ensures sound { IfOk result (λ says. IsTrue says → HasNoneOutside system.now outs.now) }
-    ensures units { IfOk result (λ says. IsCounted meter.old meter.new says (nodes cert.now)) }
     ensures meter { IsMetered meter.old meter.new result }
+
+    // A unit for each node that is looked at: where the proof refutes, for each of its nodes.
+    ensures units { MatchResult result
+        (λ _. meter.new.units ≡ meter.old.units + visited (map rows_of outs.now) system.now.columns system.now.rows cert.now)
+        (λ _. meter.new.units ≤ meter.old.units + visited (map rows_of outs.now) system.now.columns system.now.rows cert.now) }
+    ensures most { visited (map rows_of outs.now) system.now.columns system.now.rows cert.now ≤ nodes cert.now }
+    ensures whole { IfOk result (λ says. IsTrue says
+        → visited (map rows_of outs.now) system.now.columns system.now.rows cert.now ≡ nodes cert.now) }
+
+    // Units end before all these nodes are looked at; a number passes the limit at the last node that was.
+    ensures budget { IfErr result (λ cut. cut ≡ Budget
+        → meter.new.units < meter.old.units + visited (map rows_of outs.now) system.now.columns system.now.rows cert.now) }
     ensures overflow { IfErr result (λ cut. cut ≡ Overflow
-        → Passes meter.old.bits (map rows_of outs.now) system.now.columns system.now.rows cert.now) }
+        → Passes meter.old.bits (map rows_of outs.now) system.now.columns system.now.rows cert.now
+        (meter.new.units - meter.old.units)) }
 {
     let rows = system.rows.copy(alloc)?;
     let mut facts = Facts {

@@ -1,4 +1,4 @@
-//! Proofs that rows hold nowhere outside some systems, and a checker of them that shares nothing with what finds them.
+//! Proofs that rows hold nowhere outside some systems, a checker of them that shares no code with elimination, and their text.
 #![tactic(auto)]
 
 mod added;

@@ -1,6 +1,7 @@
 //! What a step asks of rows, and the row that it adds.
 
-ghost use Rattle.std.specs.Prelude.{◌≡◌, ◌⊎◌, ◌&&◌, ◌+ℤ◌, ◌*ℤ◌, ◌<ℤ◌, int_lt, true, ◌++◌, ◌∷◌, [], length, pos, negsuc, neg_ℤ, All, IfOk, IfSome, MatchOption, MatchResult, Some, None};
+ghost use Rattle.std.specs.Prelude.{◌≡◌, ◌⊎◌, ◌&&◌, ◌+ℤ◌, ◌*ℤ◌, ◌<ℤ◌, int_lt, true, ◌++◌, ◌∷◌, [], length, pos, negsuc, neg_ℤ, All, IfOk};
+ghost use Rattle.std.specs.Prelude.{IfSome, MatchOption, MatchResult, Some, None};
 ghost use Rattle.std.specs.List.{list_all};
 ghost use Rattle.std.specs.Ordering.{int_eq};
 ghost use Rattle.isl_math.specs.Divide.{floor_mod};
@@ -9,7 +10,8 @@ ghost use Rattle.isl_meter.specs.Gauge.{Gauge, IsWithin, overflown};
 ghost use Rattle.isl_piece.specs.Cut.{IsCutFor};
 ghost use Rattle.isl_piece.specs.Row.{HasModulus, IsRowWithin};
 ghost use Rattle.isl_refute.specs.Passes.{RowPasses, RowSumPasses, SumPasses, SumsPass};
-ghost use Rattle.isl_refute.specs.Refutes.{fresh_row, is_bound, is_congruence, is_equality, is_factor, is_false, holds_number, kind_of_sum, mod_row, sum_row, tie_row, weaken_row};
+ghost use Rattle.isl_refute.specs.Refutes.{fresh_row, is_bound, is_congruence, is_equality, is_factor, is_false, holds_number, kind_of_sum};
+ghost use Rattle.isl_refute.specs.Refutes.{mod_row, sum_row, tie_row, weaken_row};
 
 use isl_meter::{Cut, Int, Meter, Overflow};
 use isl_piece::{Coefs, Row, RowKind};

@@ -3,7 +3,8 @@
 ghost use Rattle.std.specs.Prelude.{◌≡◌, ◌++◌, codes, string_bytes, IfOk, OnOk};
 ghost use Rattle.std.specs.Fmt.{signed_decimal};
 ghost use Rattle.isl_refute.specs.CertText.{cert_text, form_text, number_text, numbers_text, place_text};
-ghost use Rattle.isl_refute.specs.CertText.{false_head, add_head, tie_head, mod_head, weaken_head, fresh_head, split_head, residue_head, outside_head};
+ghost use Rattle.isl_refute.specs.CertText.{false_head, add_head, tie_head, mod_head, weaken_head, fresh_head, split_head, residue_head};
+ghost use Rattle.isl_refute.specs.CertText.{outside_head};
 ghost use Rattle.isl_refute.specs.Parts.{texts_of};
 
 use crate::{Cert, Form};

@@ -27,14 +27,14 @@ fn own_rows(search: &mut Search, system: &System) -> Result<(Vec<usize>, usize),
     Ok((facts, own))
 }
 
-/// A proof that no whole point makes the system hold and none of the outs, with the number of its nodes, if the search finds one. All
-/// have the same columns, and no defined ones. What is answered is a guess: `isl_refute::check` tells whether it is a proof.
+/// A proof that no whole point makes the system hold and none of the outs, if the search finds one. All have the same columns, and no
+/// defined ones. What is answered is a guess: `isl_refute::check` tells whether it is a proof.
 ///
 /// # Errors
 ///
 /// `Overflow` where a number of the search has more than 127 bits, and `NoMemory`, also where the search ends without a proof: nothing
 /// was found, or one of its bounds was reached.
-pub fn proof_of(alloc: Global, system: &System, outs: &[System]) -> Result<(Cert, u64), Cut> {
+pub fn proof_of(alloc: Global, system: &System, outs: &[System]) -> Result<Cert, Cut> {
     let mut search = Search::new(alloc);
     let (facts, own) = own_rows(&mut search, system)?;
     let mut places = Vec::with_capacity(alloc, outs.len())?;
@@ -48,6 +48,5 @@ pub fn proof_of(alloc: Global, system: &System, outs: &[System]) -> Result<(Cert
     let found = search.cover(facts.as_slice(), outs, places.as_slice(), reach)?;
     let branch = found.ok_or(Cut::NoMemory)?;
     let mut writer = Writer::new(&search, own)?;
-    let cert = writer.write(&search, branch, system.columns, LEVELS)?;
-    Ok((cert, writer.nodes))
+    writer.write(&search, branch, system.columns, LEVELS)
 }

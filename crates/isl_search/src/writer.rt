@@ -19,8 +19,6 @@ pub(crate) struct Writer {
     made: Vec<usize>,
     own: usize,
     count: usize,
-    /// How many nodes were made.
-    pub nodes: u64,
 }
 
 impl Writer {
@@ -39,7 +37,6 @@ impl Writer {
             made: Vec::new(search.alloc),
             own,
             count: own,
-            nodes: 0,
         })
     }
 
@@ -149,7 +146,6 @@ impl Writer {
         };
         let start = self.made.len();
         let cert = self.node(search, found, columns, less)?;
-        self.nodes = self.nodes.saturating_add(1);
         self.wrapped(search, cert, start)
     }
 
@@ -250,7 +246,6 @@ impl Writer {
                 Some(How::Divided(i, k)) => Cert::Mod(self.place(i)?, k, part),
                 Some(How::Given) | None => return Err(Cut::NoMemory),
             };
-            self.nodes = self.nodes.saturating_add(1);
         }
         Ok(whole)
     }

@@ -10,5 +10,6 @@ negate-requires c =
 
 pub returns : goal.returns
 returns c =
-    negation_told c.args.meter.now c.negate.new.meter c.args.columns c.args.row.now c.in_ok-whole.whole c.negate.result c.in_ok-whole.ensures
+    negation_told c.args.meter.now c.negate.new.meter c.args.columns c.args.row.now c.in_ok-whole.whole c.negate.result
+    c.in_ok-whole.ensures
     c.negate.ensures.exact c.negate.ensures.within

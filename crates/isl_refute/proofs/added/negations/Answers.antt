@@ -6,7 +6,8 @@ use Rattle.isl_refute.proofs.added.negations.Goals as goal
 pub negation-requires : goal.negation-requires
 negation-requires c =
     let low : c.loop-row.row-index < length c.args.rows.now = omega arith in
-    out_row_at c.args.meter.now c.loop-row.meter c.args.columns c.args.rows.now c.loop-row.row-index c.row-item.result c.loop-row.invariant.2 low
+    out_row_at c.args.meter.now c.loop-row.meter c.args.columns c.args.rows.now c.loop-row.row-index c.row-item.result
+    c.loop-row.invariant.2 low
     c.row-item.is c.requires
 
 pub returns-in_err-negated : goal.returns-in_err-negated
@@ -21,6 +22,7 @@ loop-row-preserved c =
     let low : c.loop-row.row-index < length c.args.rows.now = omega arith in
     let g = c.args.meter.now in
     let more : c.append.new.self ≡ c.loop-row.made ++ c.in_ok-negated.negated = grind (arith, common_steps) in
-    rows_before g c.loop-row.meter c.negation.new.meter c.args.columns c.args.rows.now c.loop-row.row-index c.row-item.result c.loop-row.made
+    rows_before g c.loop-row.meter c.negation.new.meter c.args.columns c.args.rows.now c.loop-row.row-index c.row-item.result
+    c.loop-row.made
     c.in_ok-negated.negated c.append.new.self low c.row-item.is c.loop-row.invariant.0 c.loop-row.invariant.1 c.loop-row.invariant.2
     c.in_ok-negated.ensures.0 c.in_ok-negated.ensures.1 c.in_ok-negated.ensures.2 more

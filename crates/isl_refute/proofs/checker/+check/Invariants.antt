@@ -22,11 +22,8 @@ decreases-with_some l = 8 * nodes l.part.now + 2
 abbrev pub decreases-with_column : goal.decreases-with_column
 decreases-with_column l = 8 * nodes l.part.now + 2
 
-abbrev pub decreases-up_side : goal.decreases-up_side
-decreases-up_side l = 8 * nodes l.part.now + 2
-
-abbrev pub decreases-down_side : goal.decreases-down_side
-decreases-down_side l = 8 * nodes l.part.now + 2
+abbrev pub decreases-sides : goal.decreases-sides
+decreases-sides l = 8 * (nodes l.up.now + nodes l.down.now) + 2
 
 abbrev pub decreases-with_each : goal.decreases-with_each
 decreases-with_each l = 8 * nodes_of l.parts.now + 2

@@ -1,5 +1,10 @@
-use Rattle.std.proofs.Common.{rules}
-use Rattle.isl_refute.proofs.CertifiedLaws.{answer_shown, exact_told, meter_told, overflow_told, own_facts, own_outs, sound_told, units_told}
+use Rattle.std.proofs.Common.{map, rules}
+use Rattle.isl_refute.proofs.CertifiedLaws.{answer_shown, budget_told, exact_told, meter_told, overflow_told, own_facts, own_outs}
+use Rattle.isl_refute.proofs.CertifiedLaws.{sound_told, units_told, whole_told}
+use Rattle.isl_refute.proofs.CheckLaws.{plus_few}
+use Rattle.isl_refute.proofs.VisitedLaws.{visited_most}
+use Rattle.isl_refute.specs.Refutes.{rows_of}
+use Rattle.isl_refute.specs.Visited.{visited}
 use Rattle.isl_refute.proofs.checker.check.Goals as goal
 
 pub refute-requires : goal.refute-requires
@@ -34,11 +39,41 @@ returns-clause-units c =
     (answer_shown g h c.args.system.now c.args.outs.now c.args.cert.now c.in_ok-rows.rows c.refute.result c.in_ok-rows.ensures
     c.refute.ensures.checked)
 
+pub returns-in_err-rows-clause-units : goal.returns-in_err-rows-clause-units
+returns-in_err-rows-clause-units c =
+    let few = plus_few c.args.meter.now.units
+    (visited (map rows_of c.args.outs.now) c.args.system.now.columns c.args.system.now.rows c.args.cert.now) in
+    search (rules, few)
+
+pub returns-in_err-rows-clause-most : goal.returns-in_err-rows-clause-most
+returns-in_err-rows-clause-most c =
+    visited_most (map rows_of c.args.outs.now) c.args.cert.now c.args.system.now.columns c.args.system.now.rows
+
+pub returns-clause-most : goal.returns-clause-most
+returns-clause-most c =
+    visited_most (map rows_of c.args.outs.now) c.args.cert.now c.args.system.now.columns c.args.system.now.rows
+
+pub returns-clause-whole : goal.returns-clause-whole
+returns-clause-whole c =
+    let g = c.args.meter.now in
+    let h = c.refute.new.meter in
+    whole_told g h c.args.system.now c.args.outs.now c.args.cert.now c.refute.result
+    (answer_shown g h c.args.system.now c.args.outs.now c.args.cert.now c.in_ok-rows.rows c.refute.result c.in_ok-rows.ensures
+    c.refute.ensures.checked)
+
 pub returns-clause-meter : goal.returns-clause-meter
 returns-clause-meter c =
     let g = c.args.meter.now in
     let h = c.refute.new.meter in
     meter_told g h c.args.system.now c.args.outs.now c.args.cert.now c.refute.result
+    (answer_shown g h c.args.system.now c.args.outs.now c.args.cert.now c.in_ok-rows.rows c.refute.result c.in_ok-rows.ensures
+    c.refute.ensures.checked)
+
+pub returns-clause-budget : goal.returns-clause-budget
+returns-clause-budget c =
+    let g = c.args.meter.now in
+    let h = c.refute.new.meter in
+    budget_told g h c.args.system.now c.args.outs.now c.args.cert.now c.refute.result
     (answer_shown g h c.args.system.now c.args.outs.now c.args.cert.now c.in_ok-rows.rows c.refute.result c.in_ok-rows.ensures
     c.refute.ensures.checked)
 

@@ -14,7 +14,8 @@ returns-in-Some-Some-clause-cut c =
     let left : to_z w128 (of_z w128 c.args.a) ≡ c.args.a = grind (arith, common_steps, to_z-of_z) in
     let right : to_z w128 (of_z w128 c.args.b) ≡ c.args.b = grind (arith, common_steps, to_z-of_z) in
     sum_at_cuts c.args.meter.now c.sum_row.new.meter rows c.args.i c.args.a (to_z w128 (of_z w128 c.args.a)) c.args.j c.args.b
-    (to_z w128 (of_z w128 c.args.b)) c.in-Some-Some.first.now c.in-Some-Some.second.now c.sum_row.result left right one two c.sum_row.ensures
+    (to_z w128 (of_z w128 c.args.b)) c.in-Some-Some.first.now c.in-Some-Some.second.now c.sum_row.result left right one two
+    c.sum_row.ensures
 
 pub returns-in-Some-Some-clause-fact : goal.returns-in-Some-Some-clause-fact
 returns-in-Some-Some-clause-fact c =
@@ -24,4 +25,5 @@ returns-in-Some-Some-clause-fact c =
     let two : slice_get rows c.args.j ≡ Some c.in-Some-Some.second.now =
     sym c.row_at-2.ensures ∙ ap (λ o. option_map (λ r. r.now) o) c.in-Some-Some.is-1 in
     sum_at_fact c.args.meter.now c.sum_row.new.meter c.args.self.now.columns rows c.args.i (to_z w128 (of_z w128 c.args.a)) c.args.j
-    (to_z w128 (of_z w128 c.args.b)) c.in-Some-Some.first.now c.in-Some-Some.second.now _ _ c.sum_row.result one two c.requires c.sum_row.ensures
+    (to_z w128 (of_z w128 c.args.b)) c.in-Some-Some.first.now c.in-Some-Some.second.now _ _ c.sum_row.result one two c.requires
+    c.sum_row.ensures
