@@ -3,11 +3,13 @@
 
     bench/readme.py PROGRAM
 
-- Blocks with `$`: each command is run, and what it prints must be what stands below it; what is typed at a session is what the program
-  does not answer. A picture that a command makes must be the one that is committed.
+- Blocks with `$`, and the one of `iscc.1`: each command is run, and what it prints must be what stands below it; what is typed at a
+  session is what the program does not answer. A picture that a command makes must be the one that is committed.
 - Tables and sentences: each piece of code that ends with `;` is a statement. It must be answered, by the code right behind it where that
   is an answer; in the first column of the table for who knows iscc it must be refused. Before them stand the bindings of the block
   without `$`.
+- Sentences that show no statement: each of `TOLD` stands on the page, and a script bears it out. So do the reserved words, and the budget
+  of the examples.
 - Statuses: each is brought about, with its text, but 22, which takes a script of 2^30 bytes; `iscc.1` has the same. Limits: what just keeps
   to each is taken, what is just beyond it refused. Options: those of the table are those of the usage line, and each is taken.
 
@@ -43,6 +45,41 @@ LIMITS = [
     ("64 bound names", 64, lambda n: f"{{ [0] : exists ({', '.join(f'k{k}' for k in range(n))} : k0 = 0) }};"),
     ("200 levels", 199, lambda n: "(" * n + "{ }" + ")" * n + ";"),
     ("2^20 bytes a statement", 2**20, lambda n: "{ }" + " " * (n - 3) + ";"),
+]
+# What the page says, a script, its status, what is printed, and words.
+TOLD = [
+    ("Bindings and assumptions answer nothing", "a := { [1] }; assume [n] -> { : n >= 1 };", 0, ""),
+    ("numbers above 127 bits", f"{{ [{2**127}] }};", 14, None),
+    ("operators outside ASCII", "{ [i] : i \u2265 0 };", 3, None),
+    ("`? :`", "{ [i] : (i > 0 ? 1 : 2) = 1 };", 3, None),
+    ("`write`", 'write "f" { [1] };', 3, None),
+    ("`parse_file`", 'parse_file "f";', 3, None),
+    ("keeps its rows", "{ [i, j] : i >= 0 and 2j >= i and j >= 0 };", 0, "{ [i0, i1] : i0 >= 0 and i1 >= 0 and 2i1 >= i0 }\n"),
+    ("brings in k, any number", "{ S[i] -> A[i, k] } = { S[i] -> A[i, k] : k >= 0 or k < 0 };", 0, "True\n"),
+    ("Of several writes at one time `last` keeps all",
+     "scan (last { V[] -> A[]; W[] -> A[] } before { R[] -> A[] } under { V[] -> [0]; W[] -> [0]; R[] -> [1] })[0];", 0,
+     "{ V[] -> R[]; W[] -> R[] }\n"),
+    ("`scan a - b` is `(scan a) - b`", "scan { [1] } - { [2] };", 5, None),
+    ("(of several formulas, to one)",
+     "assume [n] -> { : n >= 1; : n <= -1 }; [n] -> { [0] : n = 0 } = { }; [n] -> { [0] : n >= 1 } = { };", 0, "True\nFalse\n"),
+    ("refused less", "assume [n] -> { : n >= 1 }; lexmin [n] -> { [i] : i >= 0; [i] : n <= 0 } = { [0] };", 0, "True\n"),
+    ("hold more often", "assume [n] -> { : n >= 1 }; [n] -> { [0] : n >= 1 } = { [0] };", 0, "True\n"),
+    ("an `if` may ask for them, and bounds that follow may go",
+     "assume [n] -> { : n <= 10 }; codegen [n] -> { S[i] : 0 <= i < n and i <= 20 };", 0,
+     "if (10 >= n) {\n  for (c0 = 0; c0 <= n - 1; c0 += 1) {\n    S(c0);\n  }\n}\n"),
+    ("what is bound loses them too, and keeps its rows",
+     "e := [n] -> { [0] : n >= 1; [1] : n <= 0 }; assume [n] -> { : n >= 1 }; e;", 0, "[n] -> { [i0] : i0 = 0 and n >= 1 }\n"),
+    ("in front (`2i`, `2*3i`) or behind (`i*2`)", "{ [i] : 2i = 4 and 2*3i = 12 and i*2 = 4 };", 0, "{ [i0] : i0 = 2 }\n"),
+    ("not both", "{ [i] : 2i*2 = 8 };", 3, None),
+    ("any number of `'`", "_a1_b'' := { [i'] : i' = 1 }; _a1_b'';", 0, "{ [i0] : i0 = 1 }\n"),
+    ("a refused statement is told and skipped", "x; y; { };", 4, None, "--keep-going"),
+    ("15, 16 and 19 to 22 end the run", "{ };" + " " * (2**20 + 1) + "; x;", 15, "{ }\niscc: statement 2: statement too long\n",
+     "--keep-going"),
+    ("16 and 19 to 22 end the run", "{ };{", 16, "{ }\niscc: statement 2: unfinished statement\n", "--keep-going"),
+    ("19 to 22 end the run", "scan { [i] : 0 <= i < 7000000 }; { };", 21, "iscc: statement 1: out of memory\n", "--keep-going"),
+    ("where `{ here[] }` is shown, the wrong one stands behind it", "{ };{ here[] };x;", 4,
+     "{ }\n{ here[] }\niscc: statement 3: unknown name\n"),
+    ("no script is read", "x;", 0, None, "--make", "1"),
 ]
 OPTIONS = {"--at": "n=4,m=-1", "--run": None, "--keep-going": None, "--bits": "8", "--budget": str(10**12), "--make": "1000"}
 found = []
@@ -134,6 +171,30 @@ def try_statuses(program, room, rows):
             found.append(f"status {status} '{text}': {ended}, {line!r}")
 
 
+def try_told(program, page):
+    """What sentences say that show no statement."""
+    page = re.sub(r"\s+", " ", page)
+    for said, script, status, wanted, *words in TOLD:
+        if said not in page:
+            found.append(f"no '{said}' is told")
+        told, ended = run(program, script, *words)
+        if ended != status or wanted not in (None, told):
+            found.append(f"'{said}': {script[:80]!r} ends with status {ended}, {told!r}")
+    for name in sorted(os.listdir(f"{TOP}/examples")):
+        if name.endswith(".iscc"):
+            with open(f"{TOP}/examples/{name}") as script:
+                if run(program, script.read(), "--budget", "9999")[1] == 18:
+                    found.append(f"examples/{name} needs 10,000 units")
+
+
+def try_reserved(program, page, rows):
+    """The words that name no value, and those that name nothing in literals."""
+    values = {*re.findall(r"\b[a-z_]{3,}\b", " ".join(rows)), "domain", "range", "assume", "print", "pip"}
+    inside = re.findall(r"`(\w+)`", re.search(r"name no value; (.*?) name nothing in literals", page, re.S)[1])
+    for scripts in [[f"{word} := {{ }};" for word in values], [f"{{ [{word}] }};" for word in inside]]:
+        found.extend(f"{script} is taken" for script in scripts if run(program, script)[1] != 3)
+
+
 def try_options(program, names):
     """The options of the table are those of the usage line, and each is taken."""
     usage = set(re.findall(r"--[a-z-]+", run(program, "", "--help")[0]))
@@ -167,13 +228,16 @@ def main(program):
                 try_block(program, room, lines)
             elif lines[0].endswith(";"):
                 bound = "\n".join(lines) + "\n"
+        with open(f"{TOP}/iscc.1") as manual:
+            example = re.search(r"^\.nf\n(.*)^\.fi", manual.read(), re.M | re.S)[1]
+        try_block(program, room, example.replace("\\-", "-").splitlines())
         for picture in re.findall(r"\]\((examples/[\w.]+)\)", page):
             with open(f"{TOP}/{picture}", "rb") as one, open(f"{room}/{picture}", "rb") as other:
                 if one.read() != other.read():
                     found.append(f"{picture} is not what its command makes")
         prose = re.sub(r"^(    |\|).*\n", "", page, flags=re.M)
         statements(program, bound, prose, False)
-        head, rows, options = "", [], []
+        head, rows, options, words = "", [], [], []
         for line in page.splitlines():
             cells = [cell.strip() for cell in re.split(r"(?<!\\)\|", line)[1:-1]]
             if not line.startswith("|"):
@@ -184,11 +248,14 @@ def main(program):
                 rows.append(cells[:2])
             else:
                 options += re.findall(r"^`(--[a-z-]+)", cells[0]) if head == "Option" else []
+                words += CODE.findall(cells[0]) if head == "Expression" else []
                 for cell in cells:
                     statements(program, bound, cell, head == "You type" and cell is cells[0])
         try_statuses(program, room, rows)
         try_options(program, options)
         try_limits(program, page)
+        try_told(program, page)
+        try_reserved(program, page, words)
     print("\n".join(found) or "README.md: all is as it says")
     return bool(found)
 
