@@ -32,7 +32,7 @@ use Rattle.isl_union.proofs.MeetLaws.{space_is, space_itself}
 use Rattle.isl_union.proofs.PieceLaws.{IsKeptValue-from_pieces}
 use Rattle.isl_union.proofs.SystemLaws.{piece_up_to, view_is}
 use Rattle.isl_span.specs.Independent.{AreIndependent}
-use Rattle.isl_hull.specs.Hull.{AffineHullHas, HasNoneIn, IsHullOf}
+use Rattle.isl_hull.specs.Hull.{HasNoneIn, HullHas, IsHullOf}
 use Rattle.isl_hull.specs.Values.{AreHullsIn, IsHullIn, IsHullPiece}
 
 -- ---- later meters
@@ -60,7 +60,7 @@ module _ (g : Gauge) (value : KeptValue) where
     each = All-nil (IsHullPiece g value);
     only = All-nil (λ (piece : PieceView). Any (λ space. space ≡ piece.space) []);
     once = λ i j d before within same. absurd (omega (arith, within));
-    all = All-nil (λ (space : SpaceForm). ¬ HasNoneIn value space → Any (λ (piece : PieceView). piece.space ≡ space) []);
+    all = All-nil (λ (space : SpaceForm). ¬ HasNoneIn (Has value) space → Any (λ (piece : PieceView). piece.space ≡ space) []);
   }
 
   module _ (spaces : List SpaceForm) (hulls : List PieceView) (space : SpaceForm) (so_far : AreHullsIn g value spaces hulls)
@@ -76,7 +76,7 @@ module _ (g : Gauge) (value : KeptValue) where
       each = so_far.each;
       only = only_more;
       once = so_far.once;
-      all = All-push (λ s. ¬ HasNoneIn value s → Any (λ (piece : PieceView). piece.space ≡ s) hulls) spaces space so_far.all
+      all = All-push (λ s. ¬ HasNoneIn (Has value) s → Any (λ (piece : PieceView). piece.space ≡ s) hulls) spaces space so_far.all
           (λ some. absurd (some none));
     })
     more (Some piece) found = record {
@@ -86,9 +86,9 @@ module _ (g : Gauge) (value : KeptValue) where
       once = all_pairs_push (λ (p q : PieceView). p.space ≢ q.space) hulls piece so_far.once
           (λ k d low same. new (Any-weaker (λ s. s ≡ (get_or hulls k d).space) (λ s. s ≡ space) (λ s is. is ∙ same ∙ found.0) spaces
           (so_far.only k d low)));
-      all = All-push (λ s. ¬ HasNoneIn value s → Any (λ (p : PieceView). p.space ≡ s) (hulls ++ piece ∷ [])) spaces space
-          (All-weaker (λ s. ¬ HasNoneIn value s → Any (λ (p : PieceView). p.space ≡ s) hulls)
-          (λ s. ¬ HasNoneIn value s → Any (λ (p : PieceView). p.space ≡ s) (hulls ++ piece ∷ []))
+      all = All-push (λ s. ¬ HasNoneIn (Has value) s → Any (λ (p : PieceView). p.space ≡ s) (hulls ++ piece ∷ [])) spaces space
+          (All-weaker (λ s. ¬ HasNoneIn (Has value) s → Any (λ (p : PieceView). p.space ≡ s) hulls)
+          (λ s. ¬ HasNoneIn (Has value) s → Any (λ (p : PieceView). p.space ≡ s) (hulls ++ piece ∷ []))
           (λ s there some. Any-left (λ (p : PieceView). p.space ≡ s) hulls (piece ∷ []) (there some)) spaces so_far.all)
           (λ some. Any-right (λ (p : PieceView). p.space ≡ space) hulls (piece ∷ [])
           (Any-first (λ (p : PieceView). p.space ≡ space) piece [] found.0));
@@ -147,7 +147,7 @@ module _ (g : Gauge) (params : List Name) (pieces hulls : List PieceView) (space
         (subst (IsSystemWithin g) (view_is params (get_or hulls k d) h.sound) h.within))
 
     -- a space in which there are elements is one of them
-    known : (space : SpaceForm) → ¬ HasNoneIn value space → Any (λ s. s ≡ space) spaces
+    known : (space : SpaceForm) → ¬ HasNoneIn (Has value) space → Any (λ s. s ≡ space) spaces
     known space some = by (list_any (λ s. is_same_space s space) spaces) refl
       where
         here : Any (λ s. s ≡ space) spaces → list_any (λ s. is_same_space s space) spaces ≡ true
@@ -164,15 +164,16 @@ module _ (g : Gauge) (params : List Name) (pieces hulls : List PieceView) (space
             false≢true (sym is ∙ here (Any-weaker (λ s. (get_or pieces p.0 p.1).space ≡ s) (λ s. s ≡ space)
             (λ s same. sym same ∙ ap (λ (q : PieceView). q.space) p.3 ∙ p.4.space ∙ lies) spaces there))))
 
-    hull_elements : (v : Valuation) (e : Element) → Has hull v e ↔ AffineHullHas value v e
+    hull_elements : (v : Valuation) (e : Element) → Has hull v e ↔ HullHas value.params (Has value) v e
     hull_elements v e = (
       (λ has.
           let p = Any-unmapped (HasElement params v e) kept_piece hulls has in
           (((subst (IsHullPiece g value) p.3 (all.each p.0 p.1 p.2)).elements v e).0 p.4).1),
       (λ a.
           let there = known e.space a.live in
-          let some = (subst (λ s. ¬ HasNoneIn value s → Any (λ (piece : PieceView). piece.space ≡ s) hulls) there.4
-          (subst (λ s. ¬ HasNoneIn value s → Any (λ (piece : PieceView). piece.space ≡ s) hulls) there.3 (all.all there.0 there.1 there.2)))
+          let some = (subst (λ s. ¬ HasNoneIn (Has value) s → Any (λ (piece : PieceView). piece.space ≡ s) hulls) there.4
+          (subst (λ s. ¬ HasNoneIn (Has value) s → Any (λ (piece : PieceView). piece.space ≡ s) hulls) there.3
+          (all.all there.0 there.1 there.2)))
           a.live in
           Any-mapped (HasElement params v e) kept_piece hulls (
             some.0,

@@ -57,7 +57,7 @@ module _ (params : List Name) (distinct : AreDistinct params) (space : SpaceForm
       let s = point_split params space point p.long distinct in
       (s.0, s.1, s.2, (has_holds s.0 s.1 s.3 (sym s.2)).0 (subst (HoldsAtAny (systems_in space pieces)) (sym s.4) p.holds), s.4)
 
-  vanishes_from : (coefs : List ℤ) (constant : ℤ) → length coefs ≡ n → VanishesOn value space coefs constant
+  vanishes_from : (coefs : List ℤ) (constant : ℤ) → length coefs ≡ n → VanishesOn params (Has value) space coefs constant
       → VanishesOnAll n P coefs constant
   vanishes_from coefs constant long zero = record {
     long = long;
@@ -66,13 +66,13 @@ module _ (params : List Name) (distinct : AreDistinct params) (space : SpaceForm
         subst (λ x. dot coefs x +ℤ constant ≡ pos 0) at.4 (zero at.0 at.1 at.3 at.2);
   }
 
-  vanishes_to : (coefs : List ℤ) (constant : ℤ) → VanishesOnAll n P coefs constant → VanishesOn value space coefs constant
+  vanishes_to : (coefs : List ℤ) (constant : ℤ) → VanishesOnAll n P coefs constant → VanishesOn params (Has value) space coefs constant
   vanishes_to coefs constant zero v e has lies = zero.zero (point_of params v e) (has_point v e has lies)
 
-  pub none_in : IsNowhere n (HoldsAtAny (systems_in space pieces)) → HasNoneIn value space
+  pub none_in : IsNowhere n (HoldsAtAny (systems_in space pieces)) → HasNoneIn (Has value) space
   none_in none v e has lies = let p = has_point v e has lies in none (point_of params v e) p.long p.holds
 
-  some_in : ¬ ((point : List ℤ) → ¬ P point) → ¬ HasNoneIn value space
+  some_in : ¬ ((point : List ℤ) → ¬ P point) → ¬ HasNoneIn (Has value) space
   some_in some none = some (λ point p. let at = point_has point p in none at.0 at.1 at.3 at.2)
 
   -- ---- the systems of the space
@@ -90,7 +90,7 @@ module _ (params : List Name) (distinct : AreDistinct params) (space : SpaceForm
   pub hull_told : (g : Gauge) (columns : ℕ) (systems : List System) (found : Option System) → columns ≡ n
       → systems ≡ systems_in space pieces
       → MatchOption found (IsNowhere columns (HoldsAtAny systems)) (IsHullSystem g columns (IsPoint columns systems))
-      → MatchOption found (HasNoneIn value space) (IsHullSystem g n P)
+      → MatchOption found (HasNoneIn (Has value) space) (IsHullSystem g n P)
   hull_told g columns systems found wide same h = by found
       (subst (λ (k : ℕ). MatchOption found (IsNowhere k (HoldsAtAny (systems_in space pieces)))
       (IsHullSystem g k (IsPoint k (systems_in space pieces)))) wide
@@ -98,7 +98,7 @@ module _ (params : List Name) (distinct : AreDistinct params) (space : SpaceForm
       h))
     where
       by : (found : Option System) → MatchOption found (IsNowhere n (HoldsAtAny (systems_in space pieces))) (IsHullSystem g n P)
-          → MatchOption found (HasNoneIn value space) (IsHullSystem g n P)
+          → MatchOption found (HasNoneIn (Has value) space) (IsHullSystem g n P)
       by None none = none_in none
       by (Some hull) told = told
 
@@ -127,10 +127,10 @@ module _ (params : List Name) (distinct : AreDistinct params) (space : SpaceForm
           has.space,
           record {
             numbers = has.numbers;
-            live = subst (λ (s : SpaceForm). ¬ HasNoneIn value s) has.space (some_in h.some);
+            live = subst (λ (s : SpaceForm). ¬ HasNoneIn (Has value) s) has.space (some_in h.some);
             zero = λ coefs constant long zero. (h.exact (point_of params v e)).0 has.holds coefs constant
                 (vanishes_from coefs constant (long ∙ ap (columns_of params) (sym has.space))
-                (subst (λ (s : SpaceForm). VanishesOn value s coefs constant) (sym has.space) zero));
+                (subst (λ (s : SpaceForm). VanishesOn params (Has value) s coefs constant) (sym has.space) zero));
           },
         )),
         (λ both.
@@ -141,7 +141,7 @@ module _ (params : List Name) (distinct : AreDistinct params) (space : SpaceForm
               space = lies;
               holds = (h.exact (point_of params v e)).1
                   (λ coefs constant zero. a.zero coefs constant (zero.long ∙ ap (columns_of params) lies)
-                  (subst (λ (s : SpaceForm). VanishesOn value s coefs constant) lies (vanishes_to coefs constant zero)));
+                  (subst (λ (s : SpaceForm). VanishesOn params (Has value) s coefs constant) lies (vanishes_to coefs constant zero)));
             }),
       );
     }

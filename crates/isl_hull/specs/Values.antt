@@ -7,10 +7,10 @@ use Rattle.isl_space.specs.Valuation.{Valuation}
 use Rattle.isl_piece.specs.declared.row.RowKind.TheVariants.{Zero}
 use Rattle.isl_piece.specs.Piece.{PieceView}
 use Rattle.isl_piece.specs.System.{IsSystemWithin}
-use Rattle.isl_union.specs.KeptValue.{KeptValue, HasElement, columns_of}
+use Rattle.isl_union.specs.KeptValue.{KeptValue, Has, HasElement, columns_of}
 use Rattle.isl_union.specs.Piece.{kept_piece, IsPieceOf}
 use Rattle.isl_span.specs.Independent.{AreIndependent}
-use Rattle.isl_hull.specs.Hull.{AffineHullHas, HasNoneIn}
+use Rattle.isl_hull.specs.Hull.{HasNoneIn, HullHas}
 
 -- the piece is the hull of the value in its space
 pub record IsHullPiece (g : Gauge) (value : KeptValue) (piece : PieceView) : Type 0 where
@@ -20,16 +20,16 @@ pub record IsHullPiece (g : Gauge) (value : KeptValue) (piece : PieceView) : Typ
   pub equations : All (λ r. r.kind ≡ Zero) piece.system.rows
   pub independent : AreIndependent (columns_of value.params piece.space) piece.system.rows
   pub elements : (valuation : Valuation) (element : Element) → HasElement value.params valuation element (kept_piece piece)
-      ↔ ((piece.space ≡ element.space) × AffineHullHas value valuation element)
+      ↔ ((piece.space ≡ element.space) × HullHas value.params (Has value) valuation element)
 
 -- what was found is the hull of the value in the space; nothing where the value has no element there
 abbrev pub IsHullIn : Gauge → KeptValue → SpaceForm → Option PieceView → Type 0
 IsHullIn g value space found =
-    MatchOption found (HasNoneIn value space) (λ piece. (piece.space ≡ space) × IsHullPiece g value piece)
+    MatchOption found (HasNoneIn (Has value) space) (λ piece. (piece.space ≡ space) × IsHullPiece g value piece)
 
 -- the hulls of the value in those of the spaces in which it has elements
 pub record AreHullsIn (g : Gauge) (value : KeptValue) (spaces : List SpaceForm) (hulls : List PieceView) : Type 0 where
   pub each : All (IsHullPiece g value) hulls
   pub only : All (λ piece. Any (λ space. space ≡ piece.space) spaces) hulls
   pub once : AllPairs (λ p q. p.space ≢ q.space) hulls
-  pub all : All (λ space. ¬ HasNoneIn value space → Any (λ piece. piece.space ≡ space) hulls) spaces
+  pub all : All (λ space. ¬ HasNoneIn (Has value) space → Any (λ piece. piece.space ≡ space) hulls) spaces

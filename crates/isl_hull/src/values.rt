@@ -40,7 +40,7 @@ fn hull_in(
 {
     let systems = systems_in(alloc, space, pieces)?;
     let columns = params.len() + space.width() as usize;
-    match hull_of(alloc, systems.as_slice(), columns, meter)? {
+    match hull_of(alloc, systems, columns, meter)? {
         None => Ok(None),
         Some(hull) => Ok(Some(Piece::new(alloc, space.copy()?, hull)?)),
     }

@@ -4,6 +4,5 @@ pub mod WideLaws
 pub mod FaultLaws
 pub mod SpaceLaws
 pub mod MadeLaws
-pub mod HullLaws
 mod PairingLaws
 mod ApplicationLaws

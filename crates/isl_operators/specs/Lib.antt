@@ -1,5 +1,4 @@
 pub mod Operations
-pub mod Hull
 pub mod Formed
 pub mod Made
 pub mod Fault

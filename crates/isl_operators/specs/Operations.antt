@@ -14,7 +14,7 @@ use Rattle.isl_relation.specs.Maps.{DomainHas, RangeHas, DeltasHas, RestrictRang
 use Rattle.isl_relation.specs.Pairs.{WrapHas, CrossMapsHas, ZipHas, DomainMapHas, RangeMapHas}
 use Rattle.isl_relation.specs.Orders.{ComesAfter, ComesBefore, IsDownTo, IsUpTo, OrderedMapsHas, OrderedSetsHas}
 use Rattle.isl_relation.specs.Extremes.{FirstHas, HasFirst}
-use Rattle.isl_operators.specs.Hull.{HullHas}
+use Rattle.isl_hull.specs.Hull.{HullHas}
 
 -- ---- operators
 -- the operators whose elements are told by those of their operands; tests make no value, and what `%` has outside of the context is not

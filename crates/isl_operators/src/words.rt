@@ -13,11 +13,10 @@ ghost use Rattle.isl_operators.specs.Made.{IsAnyWordOf, IsCoalescedFlat, IsPaid,
 
 use crate::WordFault;
 use isl_assumed::Assumed;
-use isl_hull::affine_hull;
 use isl_lex::{lexmax, lexmin};
 use isl_maps::{deltas, domain, domain_map, identity, range, range_map, unwrap, wrap, zip};
 use isl_meter::{Cut, Meter};
-use isl_simplify::coalesce;
+use isl_simplify::{affine_hull, coalesce};
 use isl_tree::statement::Prefix;
 use isl_union::{OpFault, Value};
 use std::alloc::Global;

@@ -1,7 +1,7 @@
 -- Pieces of two values, compared.
 use Rattle.std.proofs.Common.{◌≡◌, ◌↔◌, inl, inr, refl, sym, ap, ap₂, ◌∙◌, subst, arith, ℕ, ◌+◌, ◌<◌, ◌≤◌, ℤ, List, ◌++◌}
 use Rattle.std.proofs.Common.{length, length-append}
-use Rattle.std.proofs.Common.{[], map, take, drop, take-append-drop, unsigned_abs}
+use Rattle.std.proofs.Common.{map, take, drop, take-append-drop, unsigned_abs}
 use Rattle.std.specs.List.{All}
 use Rattle.std.proofs.lemmas.List.{length-drop, length-take-le}
 use Rattle.isl_math.specs.Order.{IsBefore}

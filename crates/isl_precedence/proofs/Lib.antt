@@ -6,4 +6,5 @@ pub mod OrderLaws
 pub mod PieceLaws
 pub mod SpreadLaws
 pub mod TimedLaws
+pub mod ToldLaws
 pub mod WideLaws

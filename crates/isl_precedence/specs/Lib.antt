@@ -3,6 +3,7 @@ pub mod Later
 pub mod Operands
 pub mod Precedence
 pub mod Spreads
+pub mod Told
 pub mod WideAccess
 pub use Rattle.isl_relation.specs.Flow
 pub use Rattle.isl_relation.specs.Formed

@@ -11,6 +11,7 @@ mod operands;
 mod order;
 mod precedence;
 mod spreads;
+mod told;
 mod wide;
 
 pub use before::{all_pieces_of, any};

@@ -7,6 +7,7 @@ ghost use Rattle.isl_union.specs.Fault.{IsPlainFault};
 ghost use Rattle.isl_union.specs.Numbers.{IsWithinLimit};
 ghost use Rattle.isl_precedence.specs.Operands.{AreAligned};
 
+use crate::told::told_over;
 use isl_by_space::aligned_over;
 use isl_meter::Meter;
 use isl_piece::Piece;
@@ -23,7 +24,7 @@ pub struct Operands {
     pub times: Vec<Piece>,
 }
 
-/// The pieces of the three values over their joined parameters.
+/// The pieces of the three values over their joined parameters; those of the times without the defined columns that equations tell.
 pub fn aligned(
     alloc: Global,
     sources: &Value,
@@ -43,7 +44,7 @@ pub fn aligned(
     let (params, _places) = both.align(alloc, times.params())?;
     let first = aligned_over(alloc, &params, sources, meter)?;
     let second = aligned_over(alloc, &params, sinks, meter)?;
-    let third = aligned_over(alloc, &params, times, meter)?;
+    let third = told_over(alloc, &params, times, meter)?;
     Ok(Operands {
         params,
         sources: first,

@@ -1,5 +1,6 @@
 -- Steps of the code.
-use Rattle.std.proofs.Common.{◌≡◌, refl, sym, ap, subst, ◌∙◌, arith, ℕ, zero, suc, ◌+◌, ◌-◌, ◌<◌, ◌≤◌, ℤ, pos, negsuc, neg_ℤ, ◌*ℤ◌, ◌<ℤ◌, List, [], ◌∷◌, ◌++◌, length, get_or, map, take, to_z-of_z}
+use Rattle.std.proofs.Common.{◌≡◌, refl, sym, ap, subst, ◌∙◌, arith, ℕ, zero, suc, ◌+◌, ◌-◌, ◌<◌, ◌≤◌, ℤ, pos, negsuc, neg_ℤ, ◌*ℤ◌, ◌<ℤ◌}
+use Rattle.std.proofs.Common.{List, [], ◌∷◌, ◌++◌, length, get_or, map, take, to_z-of_z}
 use Rattle.std.specs.List.{All, remove}
 use Rattle.std.proofs.lemmas.List.{take_more, take_all}
 use Rattle.std.proofs.lemmas.List.Edits.{length-remove}
@@ -21,7 +22,8 @@ scaled_push : (zs : List ℤ) (z : ℤ) → scaled (negsuc 0) (zs ++ z ∷ []) �
 scaled_push [] z = refl
 scaled_push (y ∷ zs) z = ap (λ (ys : List ℤ). (negsuc 0 *ℤ y) ∷ ys) (scaled_push zs z)
 
-pub opposite_more : (xs ys : List ℤ) (i : ℕ) → i < length xs → length xs ≡ length ys → take i xs ≡ scaled (negsuc 0) (take i ys) → get_or xs i (pos 0) ≡ neg_ℤ (get_or ys i (pos 0))
+pub opposite_more : (xs ys : List ℤ) (i : ℕ) → i < length xs → length xs ≡ length ys → take i xs ≡ scaled (negsuc 0) (take i ys)
+    → get_or xs i (pos 0) ≡ neg_ℤ (get_or ys i (pos 0))
     → take (i + 1) xs ≡ scaled (negsuc 0) (take (i + 1) ys)
 opposite_more xs ys i l e h v =
     take_more xs i (pos 0) l
@@ -30,11 +32,13 @@ opposite_more xs ys i l e h v =
     ∙ sym (scaled_push (take i ys) (get_or ys i (pos 0)))
     ∙ ap (λ (zs : List ℤ). scaled (negsuc 0) zs) (sym (take_more ys i (pos 0) (omega (arith, l, e))))
 
-pub opposite_all : (xs ys : List ℤ) (i : ℕ) → length xs ≤ i → length xs ≡ length ys → take i xs ≡ scaled (negsuc 0) (take i ys) → xs ≡ scaled (negsuc 0) ys
+pub opposite_all : (xs ys : List ℤ) (i : ℕ) → length xs ≤ i → length xs ≡ length ys → take i xs ≡ scaled (negsuc 0) (take i ys)
+    → xs ≡ scaled (negsuc 0) ys
 opposite_all xs ys i l e h = sym (take_all i xs l) ∙ h ∙ ap (λ (zs : List ℤ). scaled (negsuc 0) zs) (take_all i ys (omega (arith, l, e)))
 
 -- the definition at the place, without the column
-pub short_wide : (g : Gauge) (s : System) (i col : ℕ) (d : Definition) → IsSystemWithin g s → i < length s.definitions → d ≡ get_or s.definitions i d → col < free_columns s
+pub short_wide : (g : Gauge) (s : System) (i col : ℕ) (d : Definition) → IsSystemWithin g s → i < length s.definitions
+    → d ≡ get_or s.definitions i d → col < free_columns s
     → (col < length d.coefs) × (length (remove d.coefs col) ≡ free_columns s - 1 + i) × (pos 0 <ℤ d.k)
 short_wide g s i col d w l at c =
     let is = definition_at g (free_columns s) s.definitions i d w.definitions l in
@@ -42,14 +46,17 @@ short_wide g s i col d w l at c =
     let short = length-remove d.coefs col (omega (arith, width, c)) in
     (omega (arith, width, c), omega (arith, width, short, c), subst (λ k. pos 0 <ℤ k) (ap (λ (e : Definition). e.k) (sym at)) is.modulus)
 
-pub short_inside : (g : Gauge) (s : System) (i col : ℕ) (d : Definition) → IsSystemWithin g s → i < length s.definitions → d ≡ get_or s.definitions i d → col < free_columns s → col < length d.coefs
+pub short_inside : (g : Gauge) (s : System) (i col : ℕ) (d : Definition) → IsSystemWithin g s → i < length s.definitions
+    → d ≡ get_or s.definitions i d → col < free_columns s → col < length d.coefs
 short_inside g s i col d w l at c = (short_wide g s i col d w l at c).0
 
-pub short_width : (g : Gauge) (s : System) (i col : ℕ) (d : Definition) → IsSystemWithin g s → i < length s.definitions → d ≡ get_or s.definitions i d → col < free_columns s
+pub short_width : (g : Gauge) (s : System) (i col : ℕ) (d : Definition) → IsSystemWithin g s → i < length s.definitions
+    → d ≡ get_or s.definitions i d → col < free_columns s
     → length (remove d.coefs col) ≡ free_columns s - 1 + i
 short_width g s i col d w l at c = (short_wide g s i col d w l at c).1
 
-pub short_modulus : (g : Gauge) (s : System) (i col : ℕ) (d : Definition) → IsSystemWithin g s → i < length s.definitions → d ≡ get_or s.definitions i d → col < free_columns s → pos 0 <ℤ d.k
+pub short_modulus : (g : Gauge) (s : System) (i col : ℕ) (d : Definition) → IsSystemWithin g s → i < length s.definitions
+    → d ≡ get_or s.definitions i d → col < free_columns s → pos 0 <ℤ d.k
 short_modulus g s i col d w l at c = (short_wide g s i col d w l at c).2
 
 mapped_push : (f : Definition → Definition) (xs : List Definition) (d : Definition) → map f (xs ++ d ∷ []) ≡ map f xs ++ f d ∷ []

@@ -1,9 +1,9 @@
 -- What a step keeps: no definition names a column that is still to go; and the rows that the new definition tells.
-use Rattle.std.proofs.Common.{◌≡◌, ◌≢◌, ◌⊎◌, inl, inr, refl, sym, ap, subst, ◌∙◌, arith, true, false, ℕ, zero, suc, ◌+◌, ◌-◌, ◌<◌, ◌≤◌, ℤ, pos, neg_ℤ, ◌+ℤ◌, ◌-ℤ◌, ◌*ℤ◌, ◌≤ℤ◌, ◌<ℤ◌, List, [], ◌∷◌, ◌++◌, length, get_or, map}
+use Rattle.std.proofs.Common.{◌≡◌, ◌≢◌, ◌⊎◌, inl, inr, refl, sym, ap, subst, ◌∙◌, arith, true, false, ℕ, zero, suc, ◌-◌, ◌<◌, ◌≤◌, ℤ, pos}
+use Rattle.std.proofs.Common.{neg_ℤ, ◌+ℤ◌, ◌-ℤ◌, ◌*ℤ◌, ◌≤ℤ◌, ◌<ℤ◌, List, [], ◌∷◌, ◌++◌, length, get_or, map}
 use Rattle.std.specs.Prelude.{nat_lt}
-use Rattle.std.specs.List.{All, insert, remove}
+use Rattle.std.specs.List.{insert, remove}
 use Rattle.std.proofs.lemmas.List.Elements.{All-nil, All-cons, All-map, All-append}
-use Rattle.isl_math.specs.Divide.{floor_div}
 use Rattle.isl_math.specs.Dot.{dot}
 use Rattle.isl_math.proofs.Ring.{expand, linear}
 use Rattle.isl_math.proofs.ColumnLaws.{dot-insert}
@@ -45,7 +45,8 @@ removed_lowered cs col c n = elim (sides c col n) [
 ]
 
 -- no definition names the column where it stands then
-pub undefining_kept : (col c : ℕ) (definitions : List Definition) (upper lower : Row) → c ≢ col → IsUndefining c definitions → get_or upper.coefs c (pos 0) ≡ pos 0
+pub undefining_kept : (col c : ℕ) (definitions : List Definition) (upper lower : Row) → c ≢ col → IsUndefining c definitions
+    → get_or upper.coefs c (pos 0) ≡ pos 0
     → IsUndefining (lowered col c) (map (short_definition col) definitions ++ quotient_of col upper lower ∷ [])
 undefining_kept col c definitions upper lower n h z =
     let P : Definition → Type 0 = λ d. get_or d.coefs (lowered col c) (pos 0) ≡ pos 0 in
@@ -61,27 +62,32 @@ told_least v u c f k x d e g h l =
     simp expand (omega (arith, linear, e))
 
 -- the upper bound holds at the quotient
-pub upper_told : (col : ℕ) (upper lower : Row) (full : List ℤ) → IsQuotient col upper lower → length upper.coefs ≡ suc (length full) → col ≤ length full
+pub upper_told : (col : ℕ) (upper lower : Row) (full : List ℤ) → IsQuotient col upper lower → length upper.coefs ≡ suc (length full)
+    → col ≤ length full
     → HoldsRow (turned_row col upper) (full ++ defined_value (quotient_of col upper lower) full ∷ [])
 upper_told col upper lower full q w l =
     let x = defined_value (quotient_of col upper lower) full in
     let f = dot (remove upper.coefs col) full in
     let k = coef_at lower col in
-    let turn : get_or upper.coefs col (pos 0) ≡ neg_ℤ k = ap (λ (cs : List ℤ). get_or cs col (pos 0)) q.opposite ∙ opposite-at lower.coefs col in
+    let turn : get_or upper.coefs col (pos 0) ≡ neg_ℤ k =
+    ap (λ (cs : List ℤ). get_or cs col (pos 0)) q.opposite ∙ opposite-at lower.coefs col in
     let there = dot-insert upper.coefs full col x (omega (arith, w, l)) l in
     let value = value-turned col upper full x w l in
     let floor = IsFloor-floor_div (f +ℤ upper.constant) k q.positive in
     subst (λ kind. HoldsValue kind upper.k (value_at (turned_row col upper) (full ++ x ∷ []))) (sym q.upper_kind)
-    (told_least (value_at (turned_row col upper) (full ++ x ∷ [])) (dot upper.coefs (insert full col x)) (get_or upper.coefs col (pos 0)) f k x upper.constant value there turn floor.below)
+    (told_least (value_at (turned_row col upper) (full ++ x ∷ [])) (dot upper.coefs (insert full col x)) (get_or upper.coefs col (pos 0)) f
+    k x upper.constant value there turn floor.below)
 
-told_most : (v u t c f k x d e : ℤ) → v ≡ t +ℤ e → t ≡ neg_ℤ u → u ≡ c *ℤ x +ℤ f → c ≡ neg_ℤ k → d +ℤ e ≡ k -ℤ pos 1 → (f +ℤ d) <ℤ (k *ℤ x +ℤ k) → pos 0 ≤ℤ v
+told_most : (v u t c f k x d e : ℤ) → v ≡ t +ℤ e → t ≡ neg_ℤ u → u ≡ c *ℤ x +ℤ f → c ≡ neg_ℤ k → d +ℤ e ≡ k -ℤ pos 1
+    → (f +ℤ d) <ℤ (k *ℤ x +ℤ k) → pos 0 ≤ℤ v
 told_most v u t c f k x d e a b g h s l =
     let g' = simp expand at (g ∙ ap (λ w. w *ℤ x +ℤ f) h) in
     let l' = simp expand at l in
     simp expand (omega (arith, linear, a, b, s))
 
 -- and the lower one, where it leaves all remainders
-pub lower_told : (col : ℕ) (upper lower : Row) (full : List ℤ) → IsQuotient col upper lower → upper.constant +ℤ lower.constant ≡ coef_at lower col -ℤ pos 1
+pub lower_told : (col : ℕ) (upper lower : Row) (full : List ℤ) → IsQuotient col upper lower
+    → upper.constant +ℤ lower.constant ≡ coef_at lower col -ℤ pos 1
     → length upper.coefs ≡ suc (length full) → length lower.coefs ≡ suc (length full) → col ≤ length full
     → HoldsRow (turned_row col lower) (full ++ defined_value (quotient_of col upper lower) full ∷ [])
 lower_told col upper lower full q s w v l =
@@ -89,13 +95,15 @@ lower_told col upper lower full q s w v l =
     let xs = insert full col x in
     let f = dot (remove upper.coefs col) full in
     let k = coef_at lower col in
-    let turn : get_or upper.coefs col (pos 0) ≡ neg_ℤ k = ap (λ (cs : List ℤ). get_or cs col (pos 0)) q.opposite ∙ opposite-at lower.coefs col in
+    let turn : get_or upper.coefs col (pos 0) ≡ neg_ℤ k =
+    ap (λ (cs : List ℤ). get_or cs col (pos 0)) q.opposite ∙ opposite-at lower.coefs col in
     let both : dot upper.coefs xs ≡ neg_ℤ (dot lower.coefs xs) = ap (λ (cs : List ℤ). dot cs xs) q.opposite ∙ dot-opposite lower.coefs xs in
     let there = dot-insert upper.coefs full col x (omega (arith, w, l)) l in
     let value = value-turned col lower full x v l in
     let floor = IsFloor-floor_div (f +ℤ upper.constant) k q.positive in
     subst (λ kind. HoldsValue kind lower.k (value_at (turned_row col lower) (full ++ x ∷ []))) (sym q.lower_kind)
-    (told_most (value_at (turned_row col lower) (full ++ x ∷ [])) (dot upper.coefs xs) (dot lower.coefs xs) (get_or upper.coefs col (pos 0)) f k x upper.constant lower.constant
+    (told_most (value_at (turned_row col lower) (full ++ x ∷ [])) (dot upper.coefs xs) (dot lower.coefs xs) (get_or upper.coefs col (pos 0))
+    f k x upper.constant lower.constant
     value (by (dot upper.coefs xs) (dot lower.coefs xs) both) there turn s floor.above)
   where
     by : (a b : ℤ) → a ≡ neg_ℤ b → b ≡ neg_ℤ a

@@ -3,9 +3,11 @@ pub mod KeptLaws
 pub mod MeterLaws
 pub mod OpenedLaws
 pub mod OpeningLaws
+pub mod PinnedLaws
 pub mod QuotientLaws
 pub mod SolvedLaws
 pub mod StepLaws
+pub mod ToldLaws
 pub mod TurnLaws
 pub mod UnitLaws
 pub mod WithinLaws

@@ -1,5 +1,5 @@
 -- Systems within the limit of a meter, of which units were used.
-use Rattle.std.proofs.Common.{◌≡◌, sym, ap, List, get_or}
+use Rattle.std.proofs.Common.{sym, ap, List, get_or}
 use Rattle.std.specs.List.{All}
 use Rattle.isl_meter.specs.Gauge.{Gauge, IsCharged}
 use Rattle.isl_piece.specs.declared.system.System.{System}

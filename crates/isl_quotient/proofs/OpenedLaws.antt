@@ -1,13 +1,15 @@
--- All definitions opened: what is left of the opened system without the columns and the defined ones is left of the system without the columns.
-use Rattle.std.proofs.Common.{◌≡◌, ◌↔◌, ◌⊎◌, inl, inr, refl, sym, ap, ◌∙◌, arith, cond, Bool, true, false, ℕ, zero, suc, ◌+◌, ◌-◌, ◌<◌, ◌≤◌, ℤ, List, [], ◌∷◌, ◌++◌, length, length-append, take, drop, get_or}
+-- All definitions opened: what is left of the opened system without the columns and the defined ones is left of the system without
+-- the columns.
+use Rattle.std.proofs.Common.{◌≡◌, inl, refl, sym, ap, ◌∙◌, arith, Bool, true, false, ℕ, suc, ◌+◌, ◌<◌, ◌≤◌, ℤ, List, [], ◌∷◌, ◌++◌}
+use Rattle.std.proofs.Common.{length, length-append, take, drop}
 use Rattle.std.specs.Prelude.{nat_eq, ◌||◌}
-use Rattle.std.specs.List.{All, range_with_len}
+use Rattle.std.specs.List.{range_with_len}
 use Rattle.std.proofs.lemmas.List.{append-nil, take-append-drop}
 use Rattle.std.proofs.lemmas.List.Folds.{list_any-append}
 use Rattle.std.proofs.lemmas.List.FromFn.{length-range_with_len}
 use Rattle.isl_meter.specs.Gauge.{Gauge}
 use Rattle.isl_piece.specs.declared.system.System.{System}
-use Rattle.isl_piece.specs.System.{HoldsSystem, IsSystemWithin, free_columns}
+use Rattle.isl_piece.specs.System.{IsSystemWithin, free_columns}
 use Rattle.isl_elim.specs.Elimination.{system_of, IsProjectionAlong, without, without_from}
 use Rattle.isl_elim.specs.Opened.{definition_rows}
 use Rattle.isl_elim.proofs.DefiningLaws.{front_length, all_opened, all_opened_at, defined_numbers, defined_numbers-are, length-defined_by}
@@ -27,7 +29,8 @@ among-append : (j : ℕ) (cols more : List ℕ) → among j (cols ++ more) ≡ (
 among-append j cols more = list_any-append (λ c. nat_eq c j) cols more
 
 -- lists of columns that have the same ones of those that count
-same_left : (i : ℕ) (cols others : List ℕ) (xs : List ℤ) → ((j : ℕ) → i ≤ j → j < i + length xs → among j cols ≡ among j others) → without_from i cols xs ≡ without_from i others xs
+same_left : (i : ℕ) (cols others : List ℕ) (xs : List ℤ) → ((j : ℕ) → i ≤ j → j < i + length xs → among j cols ≡ among j others)
+    → without_from i cols xs ≡ without_from i others xs
 same_left i cols others [] f = refl
 same_left i cols others (x ∷ xs) f =
     let here = f i (omega arith) (omega arith) in
@@ -41,17 +44,22 @@ all_gone i cols (x ∷ xs) f =
     let rest = all_gone (suc i) cols xs (λ j l m. f j (omega arith) (omega (arith, m))) in
     rw here rest
 
-pub without_defined : (cols : List ℕ) (n : ℕ) (xs zs : List ℤ) → length zs ≡ n → without (cols ++ range_with_len (length xs) n) (xs ++ zs) ≡ without cols xs
+pub without_defined : (cols : List ℕ) (n : ℕ) (xs zs : List ℤ) → length zs ≡ n
+    → without (cols ++ range_with_len (length xs) n) (xs ++ zs) ≡ without cols xs
 without_defined cols n xs zs e =
     let more = range_with_len (length xs) n in
     let first = same_left 0 (cols ++ more) cols xs (λ j l m.
-    among-append j cols more ∙ ap (λ (b : Bool). among j cols || b) (among_outside j (length xs) n (inl (omega (arith, m)))) ∙ or_none (among j cols)) in
+    among-append j cols more ∙ ap (λ (b : Bool). among j cols || b) (among_outside j (length xs) n (inl (omega (arith, m))))
+    ∙ or_none (among j cols)) in
     let second = all_gone (length xs) (cols ++ more) zs (λ j l m.
-    among-append j cols more ∙ ap (λ (b : Bool). among j cols || b) (among_inside j (length xs) n l (omega (arith, m, e))) ∙ or_right (among j cols)) in
-    without-parts (cols ++ more) xs zs ∙ ap (λ (ys : List ℤ). ys ++ without_from (length xs) (cols ++ more) zs) first ∙ ap (λ (ys : List ℤ). without cols xs ++ ys) second ∙ append-nil (without cols xs)
+    among-append j cols more ∙ ap (λ (b : Bool). among j cols || b) (among_inside j (length xs) n l (omega (arith, m, e)))
+    ∙ or_right (among j cols)) in
+    without-parts (cols ++ more) xs zs ∙ ap (λ (ys : List ℤ). ys ++ without_from (length xs) (cols ++ more) zs) first
+    ∙ ap (λ (ys : List ℤ). without cols xs ++ ys) second ∙ append-nil (without cols xs)
 
 pub opened_projects : (g : Gauge) (s : System) (cols : List ℕ) (systems : List System) → IsSystemWithin g s
-    → IsProjectionAlong (system_of s.columns [] (s.rows ++ definition_rows s.columns s.definitions)) (cols ++ range_with_len (free_columns s) (length s.definitions)) systems
+    → IsProjectionAlong (system_of s.columns [] (s.rows ++ definition_rows s.columns s.definitions))
+    (cols ++ range_with_len (free_columns s) (length s.definitions)) systems
     → length cols ≤ free_columns s → IsProjectionAlong s cols systems
 opened_projects g s cols systems w p few =
     let n = length s.definitions in

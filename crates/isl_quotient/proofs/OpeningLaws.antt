@@ -1,5 +1,6 @@
 -- The opened system, and the columns that go from it.
-use Rattle.std.proofs.Common.{◌≡◌, ◌≢◌, ◌⊎◌, inl, inr, refl, sym, ap, ◌∙◌, subst, arith, ℕ, zero, suc, ◌+◌, ◌-◌, ◌<◌, ◌≤◌, ℤ, pos, List, [], ◌∷◌, ◌++◌, length, length-append, get_or}
+use Rattle.std.proofs.Common.{◌≡◌, ◌≢◌, ◌⊎◌, inl, inr, refl, sym, ap, ◌∙◌, subst, arith, ℕ, zero, suc, ◌+◌, ◌-◌, ◌<◌, ◌≤◌, pos, List, []}
+use Rattle.std.proofs.Common.{◌∷◌, ◌++◌, length, length-append, get_or}
 use Rattle.std.specs.Prelude.{AllPairs}
 use Rattle.std.specs.List.{All, range_with_len}
 use Rattle.std.proofs.lemmas.List.{get_or_append_left, get_or-append_right}
@@ -15,12 +16,12 @@ use Rattle.isl_elim.specs.Elimination.{system_of}
 use Rattle.isl_elim.specs.Opened.{definition_rows}
 use Rattle.isl_elim.specs.Others.{others_of}
 use Rattle.isl_elim.proofs.OthersLaws.{among_at, others_count, others_distinct, others_inside}
-use Rattle.isl_elim.proofs.RangeLaws.{range_distinct}
 use Rattle.isl_quotient.specs.Opened.{opened_system}
 use Rattle.isl_quotient.specs.Quotient.{IsUndefining}
 
 pub whole_within : (g : Gauge) (s : System) (rows : List Row) (whole : System) → whole ≡ system_of s.columns [] rows
-    → rows ≡ s.rows ++ definition_rows s.columns s.definitions → All (IsProper g s.columns) rows → (whole ≡ opened_system s) × IsSystemWithin g whole
+    → rows ≡ s.rows ++ definition_rows s.columns s.definitions → All (IsProper g s.columns) rows
+    → (whole ≡ opened_system s) × IsSystemWithin g whole
 whole_within g s rows whole is all proper = (
   is ∙ ap (system_of s.columns []) all,
   rw is (record {
@@ -40,7 +41,9 @@ few_within (suc m) n (c ∷ cols) few d low =
     let here : c < n = low 0 0 (omega arith) in
     let among = among_at (c ∷ cols) 0 (omega arith) in
     let count = others_count c (c ∷ cols) d among in
-    let rest = few_within m (n - 1) (others_of c (c ∷ cols)) (omega (arith, count, few)) (others_distinct c (c ∷ cols) d) (others_inside n c (c ∷ cols) here low) in
+    let rest =
+    few_within m (n - 1) (others_of c (c ∷ cols)) (omega (arith, count, few)) (others_distinct c (c ∷ cols) d)
+    (others_inside n c (c ∷ cols) here low) in
     omega (arith, count, rest, here)
 
 pub few_columns : (n : ℕ) (cols : List ℕ) → AllPairs (λ a b. a ≢ b) cols → All (λ c. c < n) cols → length cols ≤ n
@@ -51,7 +54,8 @@ module _ (n : ℕ) (cols : List ℕ) (count : ℕ) (d : AllPairs (λ a b. a ≢ 
   low_at : (i z : ℕ) → i < length cols → get_or (cols ++ range_with_len n count) i z < n
   low_at i z l = let at = get_or_append_left cols (range_with_len n count) z i l in let h = low i z l in omega (arith, at, h)
 
-  high_at : (i z : ℕ) → length cols ≤ i → i < length (cols ++ range_with_len n count) → get_or (cols ++ range_with_len n count) i z ≡ n + (i - length cols)
+  high_at : (i z : ℕ) → length cols ≤ i → i < length (cols ++ range_with_len n count)
+      → get_or (cols ++ range_with_len n count) i z ≡ n + (i - length cols)
   high_at i z l m =
       let all = length-append cols (range_with_len n count) in
       let long = length-range_with_len n count in
@@ -85,14 +89,16 @@ module _ (n : ℕ) (cols : List ℕ) (count : ℕ) (d : AllPairs (λ a b. a ≢ 
 
 -- ---- all that go
 pub all_columns : (g : Gauge) (s whole : System) (cols all : List ℕ) → IsSystemWithin g s → whole ≡ opened_system s
-    → all ≡ cols ++ range_with_len (free_columns s) (length s.definitions) → AllPairs (λ a b. a ≢ b) cols → All (λ c. c < free_columns s) cols
+    → all ≡ cols ++ range_with_len (free_columns s) (length s.definitions) → AllPairs (λ a b. a ≢ b) cols
+    → All (λ c. c < free_columns s) cols
     → AllPairs (λ a b. a ≢ b) all × All (λ c. c < free_columns whole) all
 all_columns g s whole cols all w is are d low =
     let count = w.count in
     let free : free_columns s + length s.definitions ≡ free_columns whole = rw is (omega (arith, count)) in
     rw are (
       all_distinct (free_columns s) cols (length s.definitions) d low,
-      subst (λ (n : ℕ). All (λ c. c < n) (cols ++ range_with_len (free_columns s) (length s.definitions))) free (all_inside (free_columns s) cols (length s.definitions) d low),
+      subst (λ (n : ℕ). All (λ c. c < n) (cols ++ range_with_len (free_columns s) (length s.definitions))) free
+          (all_inside (free_columns s) cols (length s.definitions) d low),
     )
 
 pub opened_undefining : (s whole : System) (cols : List ℕ) → whole ≡ opened_system s → All (λ c. IsUndefining c whole.definitions) cols

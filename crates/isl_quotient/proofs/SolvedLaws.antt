@@ -1,9 +1,11 @@
 -- One column out of a system, by an equation that has it with 1 or -1.
-use Rattle.std.proofs.Common.{◌≡◌, ◌≢◌, ◌<◌, ◌≤◌, ◌+◌, ◌-◌, refl, sym, ap, subst, ◌∙◌, arith, true, ℕ, zero, suc, ℤ, pos, List, [], ◌∷◌, ◌++◌, length, length-append, get_or, map, Option, Some, None}
-use Rattle.std.specs.Prelude.{MatchOption, option_to_list, unsigned_abs}
+use Rattle.std.proofs.Common.{◌≡◌, ◌≢◌, ◌<◌, ◌≤◌, ◌-◌, refl, ap, subst, ◌∙◌, arith, true, ℕ, ℤ, pos, List, [], ◌∷◌, ◌++◌, length}
+use Rattle.std.proofs.Common.{length-append, get_or, map, Option, Some, None}
+use Rattle.std.specs.Prelude.{IfSome, MatchOption, option_to_list, unsigned_abs}
 use Rattle.std.specs.List.{All}
 use Rattle.std.proofs.lemmas.List.{nil_from_length}
 use Rattle.std.proofs.lemmas.List.Elements.{All-head}
+use Rattle.isl_math.proofs.ListLaws.{All-last}
 use Rattle.isl_meter.specs.Gauge.{Gauge}
 use Rattle.isl_omega.specs.Equality.{HasEquality}
 use Rattle.isl_piece.specs.declared.row.Row.{Row}
@@ -13,7 +15,6 @@ use Rattle.isl_piece.specs.System.{IsSystemWithin, free_columns}
 use Rattle.isl_shadows.specs.Solved.{solved_rows}
 use Rattle.isl_elim.specs.Dependents.{dependents, kept_definitions}
 use Rattle.isl_elim.specs.Elimination.{system_of, IsProjection}
-use Rattle.isl_elim.specs.Others.{others_of}
 use Rattle.isl_elim.proofs.OthersLaws.{among, among_at}
 use Rattle.isl_quotient.specs.declared.solved.Given.{Given}
 use Rattle.isl_quotient.specs.Given.{IsGivenBy}
@@ -25,7 +26,8 @@ use Rattle.isl_quotient.proofs.UnitLaws.{no_dependents, kept_short, solved_undef
 pub given_among : (rows : List Row) (cols : List ℕ) (given : Given) → IsGivenBy rows cols given → among given.col cols ≡ true
 given_among rows cols given h = subst (λ (c : ℕ). among c cols ≡ true) h.column (among_at cols h.index h.among)
 
-pub given_low : (n : ℕ) (rows : List Row) (cols : List ℕ) (given : Given) → All (λ c. c < n) cols → IsGivenBy rows cols given → given.col < n
+pub given_low : (n : ℕ) (rows : List Row) (cols : List ℕ) (given : Given) → All (λ c. c < n) cols → IsGivenBy rows cols given
+    → given.col < n
 given_low n rows cols given low h = subst (λ (c : ℕ). c < n) h.column (low h.index 0 h.among)
 
 unit_nonzero : (c : ℤ) → unsigned_abs c ≡ 1 → c ≢ pos 0
@@ -84,5 +86,15 @@ module _ (g : Gauge) (s : System) (cols : List ℕ) (given : Given) (within : Is
       let are : systems ≡ t ∷ [] = items ∙ ap (λ (l : List System). l ++ t ∷ []) first in
       solved_is t (subst (IsProjection s given.col) are one) (subst (All (IsSystemWithin g)) are all)
       (subst (All (λ u. u.definitions ≡ kept_definitions s (given.col ∷ []))) are definitions)
+
+  pub solved_plain : (systems left : List System) (popped : Option System) → systems ≡ left ++ option_to_list popped
+      → All (λ u. u.definitions ≡ kept_definitions s (given.col ∷ [])) systems → s.definitions ≡ []
+      → IfSome popped (λ u. u.definitions ≡ [])
+  solved_plain systems left None items definitions none = tt
+  solved_plain systems left (Some t) items definitions none =
+      let P : System → Type 0 = λ u. u.definitions ≡ kept_definitions s (given.col ∷ []) in
+      (All-last P left t (subst (All P) items definitions)).1
+      ∙ kept_short g s given.col within (given_low (free_columns s) s.rows cols given low is) undefined
+      ∙ ap (map (short_definition given.col)) none
 
 pub ruleset solved_steps = (given_low)

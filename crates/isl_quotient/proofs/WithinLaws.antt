@@ -1,5 +1,6 @@
 -- The system with the quotient is one within the limit.
-use Rattle.std.proofs.Common.{◌≡◌, ◌↔◌, refl, sym, ap, subst, ◌∙◌, arith, ℕ, zero, suc, ◌+◌, ◌-◌, ◌<◌, ◌≤◌, ℤ, pos, ◌<ℤ◌, List, [], ◌∷◌, ◌++◌, length, length-append, get_or, map}
+use Rattle.std.proofs.Common.{◌≡◌, sym, subst, ◌∙◌, arith, ℕ, zero, suc, ◌+◌, ◌-◌, ◌<◌, ◌≤◌, ℤ, pos, ◌<ℤ◌, List, [], ◌∷◌, ◌++◌, length}
+use Rattle.std.proofs.Common.{length-append, get_or, map}
 use Rattle.std.specs.List.{All, remove}
 use Rattle.std.proofs.lemmas.List.Edits.{length-remove}
 use Rattle.std.proofs.lemmas.List.Elements.{All-nil, All-cons, All-head, All-tail, All-map, All-append}
@@ -27,9 +28,11 @@ length-turned col xs l =
     omega (arith, a, b, l)
 
 row_formed : (columns col : ℕ) (r : Row) → col < columns → IsWellFormed columns r → IsWellFormed columns (turned_row col r)
-row_formed columns col r l f = let w = f.width in record { width = length-turned col r.coefs (omega (arith, w, l)) ∙ w; modulus = f.modulus }
+row_formed columns col r l f =
+    let w = f.width in record { width = length-turned col r.coefs (omega (arith, w, l)) ∙ w; modulus = f.modulus }
 
-row_within : (g : Gauge) (columns col : ℕ) (r : Row) → col < columns → IsWellFormed columns r → IsRowWithin g r → IsRowWithin g (turned_row col r)
+row_within : (g : Gauge) (columns col : ℕ) (r : Row) → col < columns → IsWellFormed columns r → IsRowWithin g r
+    → IsRowWithin g (turned_row col r)
 row_within g columns col r l f h = let w = f.width in record {
   coefs = All-append (IsWithin g) (remove r.coefs col) (get_or r.coefs col (pos 0) ∷ []) (All-remove (IsWithin g) r.coefs col h.coefs)
       (All-cons (IsWithin g) (get_or r.coefs col (pos 0)) [] (h.coefs col (pos 0) (omega (arith, w, l))) (All-nil (IsWithin g)));
@@ -37,7 +40,8 @@ row_within g columns col r l f h = let w = f.width in record {
   k = h.k;
 }
 
-definitions_short : (g : Gauge) (n col : ℕ) (definitions : List Definition) → col ≤ n → AreDefinitions g (suc n) definitions → AreDefinitions g n (map (short_definition col) definitions)
+definitions_short : (g : Gauge) (n col : ℕ) (definitions : List Definition) → col ≤ n → AreDefinitions g (suc n) definitions
+    → AreDefinitions g n (map (short_definition col) definitions)
 definitions_short g n col [] l a = tt
 definitions_short g n col (d ∷ definitions) l a =
     let w = a.0.width in
@@ -52,8 +56,10 @@ definitions_short g n col (d ∷ definitions) l a =
       definitions_short g (suc n) col definitions (omega (arith, l)) a.1,
     )
 
-pub quotient_within : (g : Gauge) (s : System) (col : ℕ) (upper lower : Row) → IsSystemWithin g s → col < free_columns s → IsWellFormed s.columns upper → IsRowWithin g upper
-    → IsWellFormed s.columns lower → IsRowWithin g lower → pos 0 <ℤ coef_at lower col → (free_columns (with_quotient col upper lower s) ≡ free_columns s - 1) × IsSystemWithin g (with_quotient col upper lower s)
+pub quotient_within : (g : Gauge) (s : System) (col : ℕ) (upper lower : Row) → IsSystemWithin g s → col < free_columns s
+    → IsWellFormed s.columns upper → IsRowWithin g upper
+    → IsWellFormed s.columns lower → IsRowWithin g lower → pos 0 <ℤ coef_at lower col
+    → (free_columns (with_quotient col upper lower s) ≡ free_columns s - 1) × IsSystemWithin g (with_quotient col upper lower s)
 quotient_within g s col upper lower w l uf uw lf lw p =
     let short = map (short_definition col) s.definitions in
     let d = quotient_of col upper lower in
@@ -73,12 +79,19 @@ quotient_within g s col upper lower w l uf uw lf lw p =
       constant = uw.constant;
       k = lw.coefs col (pos 0) (omega (arith, lw', inside));
     } in
-    let defined = definitions_short g (free_columns s - 1) col s.definitions (omega (arith, l)) (subst (λ n. AreDefinitions g n s.definitions) (sym before) w.definitions) in (
+    let defined =
+    definitions_short g (free_columns s - 1) col s.definitions (omega (arith, l))
+    (subst (λ n. AreDefinitions g n s.definitions) (sym before) w.definitions) in (
       free,
       record {
-        rows = All-map (IsWellFormed s.columns) (turned_row col) s.rows (λ k r i. row_formed s.columns col (get_or s.rows k r) inside (w.rows k r i));
-        within = All-map (IsRowWithin g) (turned_row col) s.rows (λ k r i. row_within g s.columns col (get_or s.rows k r) inside (w.rows k r i) (w.within k r i));
+        rows =
+            All-map (IsWellFormed s.columns) (turned_row col) s.rows (λ k r i. row_formed s.columns col (get_or s.rows k r) inside
+            (w.rows k r i));
+        within =
+            All-map (IsRowWithin g) (turned_row col) s.rows (λ k r i. row_within g s.columns col (get_or s.rows k r) inside (w.rows k r i)
+            (w.within k r i));
         count = omega (arith, all, same, l, count);
-        definitions = subst (λ n. AreDefinitions g n (short ++ d ∷ [])) (sym free) (AreDefinitions-push g (free_columns s - 1) short d defined last);
+        definitions =
+            subst (λ n. AreDefinitions g n (short ++ d ∷ [])) (sym free) (AreDefinitions-push g (free_columns s - 1) short d defined last);
       },
     )

@@ -1,10 +1,10 @@
 -- inner: a pair of bounds of one of the columns.
-use Rattle.std.specs.Prelude.{◌≡◌, ◌<◌, ◌||◌, Bool, true, nat_eq, ℕ, pos, List, length, slice_index_or}
+use Rattle.std.specs.Prelude.{◌≡◌, ◌<◌, ◌||◌, Bool, true, nat_eq, ℕ, pos, List, All, length, slice_index_or}
 use Rattle.std.specs.List.{list_all}
 use Rattle.std.specs.Ordering.{int_eq}
 use Rattle.isl_piece.specs.declared.row.Row.{Row}
 use Rattle.isl_quotient.specs.declared.pairs.Pair.{Pair}
-use Rattle.isl_quotient.specs.Quotient.{IsQuotient}
+use Rattle.isl_quotient.specs.Quotient.{IsQuotient, PinsNone}
 
 -- the row names none of the columns but this one
 abbrev pub names_only : ℕ → List ℕ → Row → Bool
@@ -17,6 +17,10 @@ pub record IsPairAt (rows : List Row) (cols : List ℕ) (col : ℕ) (p : Pair) :
   pub lower : p.lower < length rows
   pub quotient : (d : Row) → IsQuotient col (slice_index_or rows p.upper d) (slice_index_or rows p.lower d)
   pub alone : (d : Row) → names_only col cols (slice_index_or rows p.upper d) ≡ true
+
+-- no two of the rows pin the column, of which the upper one names none of the columns beside
+abbrev pub PinNone : List Row → List ℕ → ℕ → Type 0
+PinNone rows cols col = All (λ upper. names_only col cols upper ≡ true → PinsNone rows col upper) rows
 
 -- those of one of the columns
 pub record IsPairOf (rows : List Row) (cols : List ℕ) (p : Pair) : Type 0 where

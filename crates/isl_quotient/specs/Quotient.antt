@@ -1,6 +1,6 @@
 -- public: a column that two bounds pin to a quotient, which becomes a defined column. (isl manual, on integer divisions)
-use Rattle.std.specs.Prelude.{◌≡◌, ◌<◌, ◌-◌, ◌+◌, ◌↔◌, ℕ, ℤ, pos, negsuc, neg_ℤ, ◌+ℤ◌, ◌<ℤ◌, List, [], ◌∷◌, ◌++◌, All, length, map, slice_index_or}
-use Rattle.std.specs.List.{insert, remove}
+use Rattle.std.specs.Prelude.{◌≡◌, ℕ, ℤ, pos, negsuc, ◌+ℤ◌, ◌<ℤ◌, ◌≤ℤ◌, List, [], ◌∷◌, ◌++◌, All, Any, map, slice_index_or}
+use Rattle.std.specs.List.{remove}
 use Rattle.isl_math.specs.Dot.{scaled}
 use Rattle.isl_piece.specs.declared.definition.Definition.{Definition}
 use Rattle.isl_piece.specs.declared.row.Row.{Row}
@@ -39,6 +39,20 @@ pub record IsQuotient (col : ℕ) (upper lower : Row) : Type 0 where
   pub opposite : upper.coefs ≡ scaled (negsuc 0) lower.coefs
   pub positive : pos 0 <ℤ coef_at lower col
   pub near : (upper.constant +ℤ lower.constant) <ℤ coef_at lower col
+
+-- and k is at least 2, and some number may be between: 0 <= s
+pub record IsPinning (col : ℕ) (upper lower : Row) : Type 0 where
+  pub quotient : IsQuotient col upper lower
+  pub steep : pos 1 <ℤ coef_at lower col
+  pub somewhere : pos 0 ≤ℤ (upper.constant +ℤ lower.constant)
+
+-- the row is such an upper bound with none of the rows
+abbrev pub PinsNone : List Row → ℕ → Row → Type 0
+PinsNone rows col upper = All (λ lower. ¬ IsPinning col upper lower) rows
+
+-- two of the rows are such bounds of the column
+abbrev pub HavePinning : List Row → ℕ → Type 0
+HavePinning rows col = Any (λ upper. Any (IsPinning col upper) rows) rows
 
 -- no definition names the column
 abbrev pub IsUndefining : ℕ → List Definition → Type 0

@@ -92,7 +92,8 @@ fn push_definition(
     requires definition { IsDefinition meter.old (length definition.now.coefs) definition.now }
     requires column { length definition.now.coefs < columns }
     requires rows { All (IsProper meter.old columns) rows.old }
-    ensures { IsDone meter.old meter.new (λ _. (rows.new ≡ rows.old ++ least_row columns definition.now ∷ most_row columns definition.now ∷ [])
+    ensures { IsDone meter.old meter.new
+        (λ _. (rows.new ≡ rows.old ++ least_row columns definition.now ∷ most_row columns definition.now ∷ [])
         × All (IsProper meter.old columns) rows.new) result }
 {
     let least = least_row(alloc, definition, columns, meter)?;

@@ -1,9 +1,9 @@
 //! Pairs of bounds that leave a column no number but a quotient.
 
-ghost use Rattle.std.specs.Prelude.{◌≡◌, ◌<◌, pos, All, length, IfSome, slice_index_or};
-ghost use Rattle.isl_piece.specs.Row.{IsRowWithin};
-ghost use Rattle.isl_quotient.specs.Quotient.{IsQuotient};
-ghost use Rattle.isl_quotient.specs.Pair.{names_only, IsPairAt, IsPairOf};
+ghost use Rattle.std.specs.Prelude.{◌≡◌, ◌<◌, pos, true, All, length, IfSome, IsNone, IsSome, IsTrue, ◌↔◌, ◌<ℤ◌, negsuc, slice_index_or};
+ghost use Rattle.isl_piece.specs.Row.{IsRowWithin, coef_at};
+ghost use Rattle.isl_quotient.specs.Quotient.{IsQuotient, PinsNone};
+ghost use Rattle.isl_quotient.specs.Pair.{names_only, IsPairAt, IsPairOf, PinNone};
 
 use crate::quotient::are_quotient;
 use isl_meter::{Int, Meter};
@@ -28,7 +28,9 @@ pub(crate) fn coefficient(coefs: &Coefs, col: usize) -> Int
 }
 
 /// Whether the row says of a number of at least 2 times the column that it is at most something.
-pub(crate) fn is_steep(row: &Row, col: usize) -> bool {
+pub(crate) fn is_steep(row: &Row, col: usize) -> bool
+    ensures { IsTrue result ↔ (coef_at row.now col <ℤ negsuc 0) }
+{
     coefficient(&row.coefs, col).get() < -1
 }
 
@@ -44,7 +46,8 @@ fn names_only(row: &Row, cols: &[usize], col: usize) -> bool
 pub(crate) fn lower_of(rows: &[Row], upper: &Row, col: usize, meter: &Meter) -> Option<usize>
     requires inside { All (λ r. col < length r.coefs) rows.now }
     requires within { All (IsRowWithin meter.now) rows.now }
-    ensures { IfSome result (λ at. (at < length rows.now) × ((d : Row) → IsQuotient col upper.now (slice_index_or rows.now at d))) }
+    ensures some { IfSome result (λ at. (at < length rows.now) × ((d : Row) → IsQuotient col upper.now (slice_index_or rows.now at d))) }
+    ensures none { IsNone result → PinsNone rows.now col upper.now }
 {
     for i in 0..rows.len() {
         if are_quotient(upper, &rows[i], col, meter) {
@@ -54,22 +57,33 @@ pub(crate) fn lower_of(rows: &[Row], upper: &Row, col: usize, meter: &Meter) -> 
     None
 }
 
+// The same of an upper bound that names none of the columns beside.
+fn partner_of(rows: &[Row], upper: &Row, cols: &[usize], col: usize, meter: &Meter) -> Option<usize>
+    requires inside { All (λ r. col < length r.coefs) rows.now }
+    requires within { All (IsRowWithin meter.now) rows.now }
+    ensures some { IfSome result (λ at. (at < length rows.now) × ((d : Row) → IsQuotient col upper.now (slice_index_or rows.now at d))) }
+    ensures alone { IsSome result → names_only col cols.now upper.now ≡ true }
+    ensures none { IsNone result → names_only col cols.now upper.now ≡ true → PinsNone rows.now col upper.now }
+{
+    if !is_steep(upper, col) {
+        return None;
+    }
+    if !names_only(upper, cols, col) {
+        return None;
+    }
+    lower_of(rows, upper, col, meter)
+}
+
 // The first pair of the column.
 fn pair_at(rows: &[Row], cols: &[usize], col: usize, meter: &Meter) -> Option<Pair>
     requires inside { All (λ r. col < length r.coefs) rows.now }
     requires within { All (IsRowWithin meter.now) rows.now }
-    ensures { IfSome result (IsPairAt rows.now cols.now col) }
+    ensures some { IfSome result (IsPairAt rows.now cols.now col) }
+    ensures none { IsNone result → PinNone rows.now cols.now col }
 {
-    for i in 0..rows.len() {
-        if !is_steep(&rows[i], col) || !names_only(&rows[i], cols, col) {
-            continue;
-        }
-        if let Some(lower) = lower_of(rows, &rows[i], col, meter) {
-            return Some(Pair {
-                col,
-                upper: i,
-                lower,
-            });
+    for upper in 0..rows.len() {
+        if let Some(lower) = partner_of(rows, &rows[upper], cols, col, meter) {
+            return Some(Pair { col, upper, lower });
         }
     }
     None
@@ -79,7 +93,8 @@ fn pair_at(rows: &[Row], cols: &[usize], col: usize, meter: &Meter) -> Option<Pa
 pub(crate) fn quotient_pair(rows: &[Row], cols: &[usize], meter: &Meter) -> Option<Pair>
     requires inside { All (λ col. All (λ r. col < length r.coefs) rows.now) cols.now }
     requires within { All (IsRowWithin meter.now) rows.now }
-    ensures { IfSome result (IsPairOf rows.now cols.now) }
+    ensures some { IfSome result (IsPairOf rows.now cols.now) }
+    ensures none { IsNone result → All (PinNone rows.now cols.now) cols.now }
 {
     for &col in cols {
         if let Some(pair) = pair_at(rows, cols, col, meter) {

@@ -1,15 +1,19 @@
 //! Columns out of a system: its projection, in which quotients are kept.
 
-ghost use Rattle.std.specs.Prelude.{◌≡◌, ◌≢◌, ◌<◌, ◌≤◌, ◌+◌, ◌-◌, ◌∷◌, [], All, AllPairs, IfOk, slice_index_or, length};
+ghost use Rattle.std.specs.Prelude.{◌≡◌, ◌≢◌, ◌<◌, ◌≤◌, ◌+◌, ◌-◌, ◌∷◌, [], ℕ, All, AllPairs, IfOk, option_to_list, slice_index_or, length};
 ghost use Rattle.isl_meter.specs.Gauge.{IsMetered};
-ghost use Rattle.isl_piece.specs.Normal.{IsNormal};
+ghost use Rattle.isl_piece.specs.declared.row.Row.{Row};
+ghost use Rattle.isl_piece.specs.Normal.{IsNormal, normal_system};
 ghost use Rattle.isl_piece.specs.System.{IsSystemWithin, free_columns};
 ghost use Rattle.isl_elim.specs.Elimination.{IsProjectionAlong};
 ghost use Rattle.isl_elim.specs.Others.{others_of};
-ghost use Rattle.isl_quotient.specs.Quotient.{IsUndefining};
+ghost use Rattle.isl_elim.specs.Solved.{IsUnitEquality};
+ghost use Rattle.isl_quotient.specs.Kept.{IsKept, IsPinned};
+ghost use Rattle.isl_quotient.specs.Quotient.{with_quotient, HavePinning, IsUndefining};
 ghost use Rattle.isl_quotient.specs.Pair.{IsPairOf};
 ghost use Rattle.isl_quotient.specs.Turned.{IsTurned};
 
+use crate::alone::normal_alone;
 use crate::candidate::{are_undefining, may_keep};
 use crate::opened::{opened, with_defined};
 use crate::pairs::{Pair, quotient_pair};
@@ -20,9 +24,9 @@ use isl_meter::{Cut, Meter};
 use isl_piece::System;
 use std::alloc::{AllocError, Global};
 
-// The other columns, where they stand once the column was taken out.
+/// The other columns, where they stand once the column was taken out.
 #[tactic(auto, using(std::proofs::lemmas::Grind::common_steps, isl_elim::proofs::OthersLaws::others_steps))]
-fn others(alloc: Global, cols: &[usize], col: usize) -> Result<Vec<usize>, AllocError>
+pub(crate) fn others(alloc: Global, cols: &[usize], col: usize) -> Result<Vec<usize>, AllocError>
     ensures { IfOk result (λ left. left.items ≡ others_of col cols.now) }
 {
     let mut left = Vec::with_capacity(alloc, cols.len())?;
@@ -49,7 +53,9 @@ fn turned(
     requires cols_in { All (λ col. col < free_columns system.now) cols.now }
     requires undefining { All (λ col. IsUndefining col system.now.definitions) cols.now }
     requires pair { IsPairOf system.now.rows cols.now pair }
-    ensures { IfOk result (IsTurned meter.now system.now cols.now pair.col) }
+    ensures turned { IfOk result (IsTurned meter.now system.now cols.now pair.col) }
+    ensures exact { (d : Row) → IfOk result (λ made. made ≡ with_quotient pair.col (slice_index_or system.now.rows pair.upper d)
+        (slice_index_or system.now.rows pair.lower d) system.now) }
 {
     let rows = system.rows.as_slice();
     with_quotient(
@@ -80,7 +86,13 @@ fn kept_without(
     ensures normal { IfOk result (λ systems. All (λ s. IsNormal s.rows) systems.items) }
     ensures counted { IfOk result (λ systems. meter.old.units + length systems.items ≤ meter.new.units + 1) }
     ensures meter { IsMetered meter.old meter.new result }
+    ensures alone { cols.now ≡ [] → IfOk result (λ systems. systems.items ≡ option_to_list (normal_system system)) }
+    ensures kept { (col : ℕ) → cols.now ≡ col ∷ [] → HavePinning system.rows col
+        → IfOk result (λ systems. IsKept col system systems.items) }
 {
+    if cols.is_empty() {
+        return Ok(normal_alone(alloc, system, meter)?);
+    }
     let Some(pair) = quotient_pair(system.rows.as_slice(), cols, meter) else {
         return eliminate_all(alloc, &system, cols, meter);
     };
@@ -106,6 +118,8 @@ fn solved_without(
     ensures normal { IfOk result (λ systems. All (λ s. IsNormal s.rows) systems.items) }
     ensures counted { IfOk result (λ systems. meter.old.units + length systems.items ≤ meter.new.units + 1) }
     ensures meter { IsMetered meter.old meter.new result }
+    ensures kept { (col : ℕ) → cols.now ≡ col ∷ [] → All (λ r. ¬ IsUnitEquality col r) system.rows → HavePinning system.rows col
+        → IfOk result (λ systems. IsKept col system systems.items) }
 {
     let Some(given) = given_column(system.rows.as_slice(), cols) else {
         return kept_without(alloc, system, cols, meter);
@@ -141,8 +155,9 @@ fn opened_without(
 }
 
 /// The systems without the free columns `cols`, of which some holds at a point of the other free columns exactly where some whole
-/// numbers put at `cols` make `system` hold. Each is in normal form. Of a column that two bounds leave no number but a quotient,
-/// that quotient is a defined column of what is left, which is one system then. Where there is none, this is `eliminate_all`.
+/// numbers put at `cols` make `system` hold. Each is in normal form. Of one column `x` with `k x <= e <= k x + s`, where `0 <= s < k`
+/// and `1 < k`, that no definition names and no equation has with 1 or -1, one system is left at most, whose last column is the quotient of
+/// `e` by `k`, defined. Of several columns this may keep quotients too.
 ///
 /// # Errors
 ///
@@ -162,6 +177,8 @@ pub fn project(
     ensures normal { IfOk result (λ systems. All (λ s. IsNormal s.rows) systems.items) }
     ensures counted { IfOk result (λ systems. meter.old.units + length systems.items ≤ meter.new.units + 1) }
     ensures meter { IsMetered meter.old meter.new result }
+    ensures kept { (col : ℕ) → cols.now ≡ col ∷ [] → IsPinned col system.now
+        → IfOk result (λ systems. IsKept col system.now systems.items) }
 {
     if !are_undefining(system.definitions.as_slice(), cols) {
         return opened_without(alloc, system, cols, meter);

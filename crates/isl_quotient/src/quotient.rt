@@ -1,12 +1,13 @@
 //! One column replaced by a quotient.
 
-ghost use Rattle.std.specs.Prelude.{◌≡◌, ◌<◌, ◌≤◌, ◌-◌, ◌+◌, ◌<ℤ◌, ◌+ℤ◌, pos, negsuc, [], All, map, length, IfOk, IfSome, IsTrue, slice_index_or};
+ghost use Rattle.std.specs.Prelude.{◌≡◌, ◌↔◌, ◌<◌, ◌≤◌, ◌-◌, ◌+◌, ◌<ℤ◌, ◌+ℤ◌, pos, negsuc, [], All, map, length};
+ghost use Rattle.std.specs.Prelude.{IfOk, IfSome, IsTrue, slice_index_or};
 ghost use Rattle.std.specs.List.{remove};
 ghost use Rattle.isl_math.specs.Dot.{scaled};
 ghost use Rattle.isl_meter.specs.Gauge.{IsWithin};
 ghost use Rattle.isl_piece.specs.Row.{IsWellFormed, IsRowWithin, coef_at};
 ghost use Rattle.isl_piece.specs.System.{IsSystemWithin, free_columns};
-ghost use Rattle.isl_quotient.specs.Quotient.{IsQuotient, turned_row, short_definition, with_quotient};
+ghost use Rattle.isl_quotient.specs.Quotient.{IsPinning, IsQuotient, turned_row, short_definition, with_quotient};
 
 use isl_meter::Meter;
 use isl_piece::{Coefs, Row, RowKind, Rows, System};
@@ -79,11 +80,11 @@ pub(crate) fn with_quotient(
     Ok(made)
 }
 
-// Whether each number of the one is that of the other, with the other sign.
+/// Whether each number of the one is that of the other, with the other sign.
 #[tactic(auto, using(std::proofs::lemmas::Grind::common_steps, crate::proofs::CodeLaws::quotient_steps))]
-fn are_opposite(upper: &Coefs, lower: &Coefs, meter: &Meter) -> bool
+pub(crate) fn are_opposite(upper: &Coefs, lower: &Coefs, meter: &Meter) -> bool
     requires within { All (IsWithin meter.now) lower.now }
-    ensures { IsTrue result → upper.now ≡ scaled (negsuc 0) lower.now }
+    ensures { IsTrue result ↔ (upper.now ≡ scaled (negsuc 0) lower.now) }
 {
     if upper.len() != lower.len() {
         return false;
@@ -100,7 +101,8 @@ fn are_opposite(upper: &Coefs, lower: &Coefs, meter: &Meter) -> bool
 pub(crate) fn are_quotient(upper: &Row, lower: &Row, col: usize, meter: &Meter) -> bool
     requires inside { col < length lower.now.coefs }
     requires within { IsRowWithin meter.now lower.now }
-    ensures { IsTrue result → IsQuotient col upper.now lower.now }
+    ensures quotient { IsTrue result → IsQuotient col upper.now lower.now }
+    ensures found { IsPinning col upper.now lower.now → IsTrue result }
 {
     if upper.kind != RowKind::AtLeast || lower.kind != RowKind::AtLeast {
         return false;

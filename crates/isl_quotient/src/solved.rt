@@ -1,6 +1,6 @@
 //! One column out of a system, by an equation that has it with 1 or -1.
 
-ghost use Rattle.std.specs.Prelude.{◌≡◌, ◌<◌, [], All, IfOk, IfSome, IsTrue, MatchOption, length, slice_index_or};
+ghost use Rattle.std.specs.Prelude.{◌≡◌, ◌<◌, [], All, IfOk, IfSome, IsNone, IsTrue, ◌↔◌, MatchOption, length, slice_index_or};
 ghost use Rattle.isl_meter.specs.Gauge.{IsMetered};
 ghost use Rattle.isl_piece.specs.System.{IsSystemWithin, free_columns};
 ghost use Rattle.isl_elim.specs.Elimination.{IsProjection};
@@ -23,7 +23,7 @@ pub(crate) struct Given {
 
 /// Whether the row is an equation that has the column with 1 or -1.
 pub(crate) fn is_unit_equality(row: &Row, col: usize) -> bool
-    ensures { IsTrue result → IsUnitEquality col row.now }
+    ensures { IsTrue result ↔ IsUnitEquality col row.now }
 {
     if row.kind != RowKind::Zero || col >= row.coefs.len() {
         return false;
@@ -34,7 +34,8 @@ pub(crate) fn is_unit_equality(row: &Row, col: usize) -> bool
 
 // The place of an equation that has the column with 1 or -1.
 fn unit_at(rows: &[Row], col: usize) -> Option<usize>
-    ensures { IfSome result (λ at. (at < length rows.now) × ((d : Row) → IsUnitEquality col (slice_index_or rows.now at d))) }
+    ensures some { IfSome result (λ at. (at < length rows.now) × ((d : Row) → IsUnitEquality col (slice_index_or rows.now at d))) }
+    ensures none { IsNone result → All (λ r. ¬ IsUnitEquality col r) rows.now }
 {
     for i in 0..rows.len() {
         if is_unit_equality(&rows[i], col) {
@@ -46,7 +47,8 @@ fn unit_at(rows: &[Row], col: usize) -> Option<usize>
 
 /// The first of the columns that an equation has with 1 or -1.
 pub(crate) fn given_column(rows: &[Row], cols: &[usize]) -> Option<Given>
-    ensures { IfSome result (IsGivenBy rows.now cols.now) }
+    ensures some { IfSome result (IsGivenBy rows.now cols.now) }
+    ensures none { IsNone result → All (λ col. All (λ r. ¬ IsUnitEquality col r) rows.now) cols.now }
 {
     for &col in cols {
         if let Some(at) = unit_at(rows, col) {
@@ -71,6 +73,7 @@ pub(crate) fn solved(
     requires given { IsGivenBy system.now.rows cols.now given }
     ensures left { IfOk result (λ found. MatchOption found (IsProjection system.now given.col [])
         (IsTurned meter.old system.now cols.now given.col)) }
+    ensures plain { system.now.definitions ≡ [] → IfOk result (λ found. IfSome found (λ short. short.definitions ≡ [])) }
     ensures meter { IsMetered meter.old meter.new result }
 {
     let mut systems = eliminate(alloc, system, given.col, meter)?;

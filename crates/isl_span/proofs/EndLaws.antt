@@ -1,9 +1,9 @@
 -- What is left when all forms were asked for.
-use Rattle.std.proofs.Common.{◌≡◌, ◌≢◌, ◌↔◌, ◌∙◌, inl, inr, refl, sym, ap, subst, ℕ, ℤ, pos, ◌+ℤ◌, true, false}
-use Rattle.std.proofs.Common.{List, [], ◌∷◌, ◌++◌, length, get_or}
+use Rattle.std.proofs.Common.{◌≡◌, ◌≢◌, ◌↔◌, ◌∙◌, inl, inr, refl, sym, ap, subst, ℕ, zero, suc, ◌+◌, ◌<◌, arith, ℤ, pos, ◌+ℤ◌, true, false}
+use Rattle.std.proofs.Common.{List, [], ◌∷◌, ◌++◌, length, get_or, take, drop}
 use Rattle.std.specs.List.{All}
 use Rattle.std.proofs.lemmas.Bool.{false_from_ne_true}
-use Rattle.std.proofs.lemmas.List.{map-append}
+use Rattle.std.proofs.lemmas.List.{append_assoc, map-append}
 use Rattle.std.proofs.lemmas.List.Elements.{All-append, All-cons, All-head, All-nil, All-tail, All-weaker}
 use Rattle.isl_math.specs.Dot.{dot}
 use Rattle.isl_math.proofs.ListLaws.{All-parts}
@@ -17,6 +17,7 @@ use Rattle.isl_piece.specs.Row.{HasModulus, HoldsRow, HoldsValue, IsRowWithin, I
 use Rattle.isl_piece.specs.System.{HoldRows}
 use Rattle.isl_piece.proofs.MergeLaws.{same_bound-true, AreApart}
 use Rattle.isl_piece.proofs.NormalLaws.{IsNormal-from}
+use Rattle.isl_span.specs.Chain.{AreHullRows}
 use Rattle.isl_span.specs.Forms.{IsForm, forms_of}
 use Rattle.isl_span.specs.Independent.{AreIndependent}
 use Rattle.isl_span.specs.Points.{AreFormsFor, IsHullSystem, IsPoint}
@@ -26,7 +27,7 @@ use Rattle.isl_span.proofs.OwnLaws.{own_point}
 use Rattle.isl_span.proofs.SpannedLaws.{vanishes}
 
 -- ---- equations hold where their forms are 0
-equation_holds : (r : Row) (x : List ℤ) → r.kind ≡ Zero → HoldsRow r x ↔ (value_at r x ≡ pos 0)
+pub equation_holds : (r : Row) (x : List ℤ) → r.kind ≡ Zero → HoldsRow r x ↔ (value_at r x ≡ pos 0)
 equation_holds r x is = (
   (λ h. subst (λ (kind : RowKind). HoldsValue kind r.k (value_at r x)) is h),
   (λ z. subst (λ (kind : RowKind). HoldsValue kind r.k (value_at r x)) (sym is) z),
@@ -49,30 +50,41 @@ hold_vanish (r ∷ rows) x all holds = (
 )
 
 -- ---- no two of them are equal
-rows_apart : (rows : List Row) → All IsEquation rows → (xs : List (List ℤ)) → HaveOwn (forms_of rows) xs → AreApart rows
-rows_apart [] all xs own = tt
-rows_apart (r ∷ rows) all [] own = absurd own
-rows_apart (r ∷ rows) all (x ∷ xs) own = (
-  from_here rows own.1,
-  rows_apart rows (All-tail IsEquation r rows all) xs own.3,
+split_at : {X : Type 0} (xs : List X) (k : ℕ) (d : X) → k < length xs → xs ≡ take k xs ++ get_or xs k d ∷ drop (suc k) xs
+split_at [] k d low = absurd (omega arith)
+split_at (x ∷ xs) zero d low = refl
+split_at (x ∷ xs) (suc k) d low = ap (λ l. x ∷ l) (split_at xs k d (omega arith))
+
+not_zero : AtLeast ≡ Zero → ⊥
+not_zero e = cc
+
+same_holds : (r s : Row) → IsEquation r → IsEquation s → same_bound r s ≡ true → (x : List ℤ) → HoldsRow r x → HoldsRow s x
+same_holds r s is also same x h =
+    let b = same_bound-true r s same in
+    let constant : r.constant ≡ s.constant = elim b.constant [ inl e ↦ absurd (not_zero (sym e ∙ is)) | inr e ↦ e ] in
+    let value : value_at r x ≡ value_at s x =
+    ap (λ (cs : List ℤ). dot cs x +ℤ r.constant) b.coefs ∙ ap (λ (k : ℤ). dot s.coefs x +ℤ k) constant in
+    (equation_holds s x also).1 (sym value ∙ (equation_holds r x is).0 h)
+
+rows_apart : (n : ℕ) (before rows : List Row) → AreIndependent n (before ++ rows) → All IsEquation rows → AreApart rows
+rows_apart n before [] needed all = tt
+rows_apart n before (r ∷ rows) needed all = (
+  others,
+  rows_apart n (before ++ r ∷ []) rows (subst (AreIndependent n) (sym (append_assoc before (r ∷ []) rows)) needed)
+      (All-tail IsEquation r rows all),
 )
   where
-    not_zero : AtLeast ≡ Zero → ⊥
-    not_zero e = cc
-
-    differs : (s : Row) → value_at s x ≡ pos 0 → same_bound r s ≢ true
-    differs s zero same =
-        let b = same_bound-true r s same in
-        let constant : r.constant ≡ s.constant = elim b.constant [
-          | inl e ↦ absurd (not_zero (sym e ∙ All-head IsEquation r rows all))
-          | inr e ↦ e
-        ] in
-        own.0 (ap (λ (cs : List ℤ). dot cs x +ℤ r.constant) b.coefs ∙ ap (λ (k : ℤ). dot s.coefs x +ℤ k) constant ∙ zero)
-
-    from_here : (others : List Row) → Vanish (forms_of others) x → All (λ s. same_bound r s ≡ false) others
-    from_here [] zeros = All-nil (λ s. same_bound r s ≡ false)
-    from_here (s ∷ others) zeros =
-        All-cons (λ s. same_bound r s ≡ false) s others (false_from_ne_true (same_bound r s) (differs s zeros.0)) (from_here others zeros.1)
+    others : All (λ s. same_bound r s ≡ false) rows
+    others k d low =
+        let s = get_or rows k d in
+        let split : before ++ r ∷ rows ≡ (before ++ r ∷ take k rows) ++ s ∷ drop (suc k) rows =
+        ap (λ l. before ++ r ∷ l) (split_at rows k d low) ∙ sym (append_assoc before (r ∷ take k rows) (s ∷ drop (suc k) rows)) in
+        false_from_ne_true (same_bound r s) (λ same.
+        needed (before ++ r ∷ take k rows) s (drop (suc k) rows) split (λ x long holds.
+        let first = All-parts (λ o. HoldsRow o x) (before ++ r ∷ take k rows) (drop (suc k) rows) holds in
+        let here = All-parts (λ o. HoldsRow o x) before (r ∷ take k rows) first.0 in
+        same_holds r s (All-head IsEquation r rows all) (All-tail IsEquation r rows all k d low) same x
+        (All-head (λ o. HoldsRow o x) r (take k rows) here.1)))
 
 -- ---- the hull
 module _ (g : Gauge) (n : ℕ) (P : List ℤ → Type 0) (rows : List Row) (all : AreFormsFor g n P 0 rows) where
@@ -91,16 +103,9 @@ module _ (g : Gauge) (n : ℕ) (P : List ℤ → Type 0) (rows : List Row) (all 
       (All-append (λ o. HoldsRow o x) before behind (vanish_hold before x parts.0 own.3)
       (vanish_hold behind x (All-tail IsEquation r behind parts.1) own.4))))
 
-  pub hull_is : (p : List ℤ) → P p → IsHullSystem g n P (record { columns = n; definitions = []; rows = rows })
-  hull_is p here = record {
-    width = refl;
-    plain = refl;
-    equations = equations;
-    formed = All-weaker (IsForm g n) (IsWellFormed n) (λ r f. f.formed) rows all.forms;
-    within = All-weaker (IsForm g n) (IsRowWithin g) (λ r f. f.within) rows all.forms;
-    normal = IsNormal-from rows (All-weaker (IsForm g n) (λ r. normal_row r ≡ Kept r) (λ r f. f.normal) rows all.forms)
-        (All-weaker (IsForm g n) (λ r. HasModulus r.kind r.k) (λ r f. f.formed.modulus) rows all.forms)
-        (rows_apart rows equations all.points all.own);
+  pub rows_are : (p : List ℤ) → P p → AreHullRows g n P rows
+  rows_are p here = record {
+    forms = all.forms;
     independent = parts_independent;
     some = λ none. none p here;
     exact = λ x. (
@@ -115,6 +120,25 @@ module _ (g : Gauge) (n : ℕ) (P : List ℤ → Type 0) (rows : List Row) (all 
           }))),
     );
   }
+
+-- the system of such rows
+pub hull_is : (g : Gauge) (n : ℕ) (P : List ℤ → Type 0) (rows : List Row) → AreHullRows g n P rows
+    → IsHullSystem g n P (record { columns = n; definitions = []; rows = rows })
+hull_is g n P rows are =
+    let equations : All IsEquation rows = All-weaker (IsForm g n) IsEquation (λ r f. f.kind) rows are.forms in
+    record {
+      width = refl;
+      plain = refl;
+      equations = equations;
+      formed = All-weaker (IsForm g n) (IsWellFormed n) (λ r f. f.formed) rows are.forms;
+      within = All-weaker (IsForm g n) (IsRowWithin g) (λ r f. f.within) rows are.forms;
+      normal = IsNormal-from rows (All-weaker (IsForm g n) (λ r. normal_row r ≡ Kept r) (λ r f. f.normal) rows are.forms)
+          (All-weaker (IsForm g n) (λ r. HasModulus r.kind r.k) (λ r f. f.formed.modulus) rows are.forms)
+          (rows_apart n [] rows are.independent equations);
+      independent = are.independent;
+      some = are.some;
+      exact = are.exact;
+    }
 
 -- ---- where these are those of the points of systems
 pub forms_before : (g h : Gauge) (n m : ℕ) (systems : List System) (rows : List Row) → h.bits ≡ g.bits → m ≡ n

@@ -5,3 +5,10 @@ pub mod StartLaws
 pub mod StepLaws
 pub mod EndLaws
 pub mod PointLaws
+pub mod WiderLaws
+pub mod LastLaws
+pub mod ChainLaws
+pub mod LinkLaws
+pub mod TightLaws
+pub mod SeenLaws
+pub mod CallLaws

@@ -4,8 +4,10 @@ ghost use Rattle.std.specs.Prelude.{◌≡◌, ◌<◌, ◌+◌, All, IfOk, Matc
 ghost use Rattle.isl_meter.specs.Gauge.{IsMetered};
 ghost use Rattle.isl_elim.specs.Elimination.{HoldsAtAny};
 ghost use Rattle.isl_elim.specs.Sample.{IsNowhere, IsSample};
+ghost use Rattle.isl_span.specs.Chain.{AreHullRows};
 ghost use Rattle.isl_span.specs.Points.{AreFormsFor, IsHullSystem, IsOver, IsPoint};
 
+use crate::chain::{chain_of, push_padded};
 use crate::forms::{exchanged, number_forms};
 use crate::points::{first_point, point_off};
 use isl_meter::{Cut, Meter};
@@ -57,8 +59,29 @@ fn rows_through(
     Ok(forms)
 }
 
-/// The system of the equations that hold at all points of the systems; none where these have no point. Forms that are 0 at the points
-/// found so far are asked one after another for a point at which they are not.
+// The equations that hold at all points of the systems; none where these have no point. Forms that are 0 at the points found so far are
+// asked one after another for a point at which they are not.
+#[tactic(auto, using(std::proofs::lemmas::Grind::common_steps, isl_meter::proofs::CutLemmas::charges))]
+fn equations_of(
+    alloc: Global,
+    systems: &[System],
+    columns: usize,
+    meter: &mut Meter,
+) -> Result<Option<Rows>, Cut>
+    requires { All (IsOver meter.old columns) systems.now }
+    ensures exact { IfOk result (λ found. MatchOption found
+        (IsNowhere columns (HoldsAtAny systems.now))
+        (AreHullRows meter.old columns (IsPoint columns systems.now))) }
+    ensures meter { IsMetered meter.old meter.new result }
+{
+    let Some(point) = first_point(alloc, systems, columns, meter)? else {
+        return Ok(None);
+    };
+    Ok(Some(rows_through(alloc, systems, point.as_slice(), meter)?))
+}
+
+/// The system of the equations that hold at all points of the systems; none where these have no point. From one system the last columns
+/// are taken one after another, as long as it is seen what they add; of what is left, points are looked for.
 ///
 /// # Errors
 ///
@@ -66,19 +89,20 @@ fn rows_through(
 #[tactic(auto, using(std::proofs::lemmas::Grind::common_steps, isl_meter::proofs::CutLemmas::charges))]
 pub fn hull_of(
     alloc: Global,
-    systems: &[System],
+    systems: Vec<System>,
     columns: usize,
     meter: &mut Meter,
 ) -> Result<Option<System>, Cut>
-    requires { All (IsOver meter.old columns) systems.now }
+    requires { All (IsOver meter.old columns) systems.items }
     ensures exact { IfOk result (λ found. MatchOption found
-        (IsNowhere columns (HoldsAtAny systems.now))
-        (IsHullSystem meter.old columns (IsPoint columns systems.now))) }
+        (IsNowhere columns (HoldsAtAny systems.items))
+        (IsHullSystem meter.old columns (IsPoint columns systems.items))) }
     ensures meter { IsMetered meter.old meter.new result }
 {
-    let Some(point) = first_point(alloc, systems, columns, meter)? else {
+    let mut chain = chain_of(alloc, systems, columns, meter)?;
+    let Some(rest) = equations_of(alloc, chain.left.as_slice(), chain.first, meter)? else {
         return Ok(None);
     };
-    let rows = rows_through(alloc, systems, point.as_slice(), meter)?;
-    Ok(Some(System::from_rows(alloc, columns, rows)))
+    push_padded(alloc, &mut chain.rows, rest.as_slice(), columns)?;
+    Ok(Some(System::from_rows(alloc, columns, chain.rows)))
 }

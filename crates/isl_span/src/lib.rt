@@ -1,8 +1,12 @@
 //! The affine hull of the points of systems.
 #![tactic(auto)]
 
+mod chain;
 mod forms;
 mod hull;
+mod last;
+mod link;
+mod moved;
 mod points;
 
 pub use hull::hull_of;

@@ -40,8 +40,12 @@ pub(crate) fn first_point(
     Ok(None)
 }
 
-// The system of this row alone.
-fn only(alloc: Global, columns: usize, row: &Row) -> Result<System, AllocError>
+/// The system of this row alone.
+///
+/// # Errors
+///
+/// Where memory ends.
+pub(crate) fn only(alloc: Global, columns: usize, row: &Row) -> Result<System, AllocError>
     ensures { IfOk result (λ only. only ≡ record { columns = columns; definitions = []; rows = row.now ∷ [] }) }
 {
     let mut rows = Rows::new(alloc);

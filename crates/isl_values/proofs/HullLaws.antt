@@ -17,15 +17,13 @@ use Rattle.isl_assumed.specs.declared.assumed.Assumed.TheVariants.{Nothing, Wher
 use Rattle.isl_assumed.specs.Assumed.{Assumes}
 use Rattle.isl_assumed.specs.Values.{IsDeadAt}
 use Rattle.isl_assumed.proofs.ValueLaws.{live_whole}
-use Rattle.isl_hull.specs.Hull.{IsHullOf}
+use Rattle.isl_hull.specs.Hull.{HullHas, IsHullOf}
 use Rattle.isl_tree.specs.declared.statement.Prefix.TheVariants as p
 use Rattle.isl_tree.specs.declared.statement.Expr.{Expr, Prefix}
 use Rattle.isl_tree.specs.declared.statement.Expr.TheBlock.{hidden-the_row-Expr-0}
 use Rattle.isl_kinds.specs.Typed.{declared_of}
 use Rattle.isl_kinds.proofs.DeclaredLaws.{declared_of-Prefix}
-use Rattle.isl_operators.specs.Hull.{HullHas}
 use Rattle.isl_operators.specs.Operations.{is_operation_word}
-use Rattle.isl_operators.proofs.HullLaws.{has_hull}
 use Rattle.isl_state.specs.declared.list.ListPart.{ListPart}
 use Rattle.isl_state.specs.declared.list.ListPart.TheVariants.{First}
 use Rattle.isl_state.specs.State.{AtAssumed, Moment, StateView, scope_of}
@@ -159,8 +157,7 @@ module _ (state : StateView) (part : ListPart) (operand : Expr) (value : KeptVal
     -- the value has the hull of what is asked of, and at assumed valuations that of what is selected
     of_asked : (v : Valuation) (x : Element) → Has value v x ↔ HullHas names (Has asked) v x
     of_asked v x =
-        subst (λ (ns : List Name). Has value v x ↔ HullHas ns (Has asked) v x) own
-        (has_hull asked v x (Has value v x) (hull.elements v x))
+        subst (λ (ns : List Name). Has value v x ↔ HullHas ns (Has asked) v x) own (hull.elements v x)
 
     of_there : (v : Valuation) → Assumes state.assumed v → (x : Element) → Has value v x ↔ HullHas names There v x
     of_there v here x =

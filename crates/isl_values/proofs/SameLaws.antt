@@ -13,7 +13,7 @@ use Rattle.isl_operators.specs.Point.{Point, HasPoint, Relates, set_element, map
 use Rattle.isl_operators.specs.Maps.{JoinHas}
 use Rattle.isl_operators.specs.Extremes.{FirstHas, HasFirst, IsFirstImage, IsFirstOf}
 use Rattle.isl_operators.specs.Flow.{AnyHas, IsOverwritten, Precedes}
-use Rattle.isl_operators.specs.Hull.{HullHas}
+use Rattle.isl_hull.specs.Hull.{HullHas}
 use Rattle.isl_operators.specs.Orders.{ComesAfter, ComesBefore, IsDownTo, IsUpTo}
 use Rattle.isl_operators.specs.Operations.{IsIn, OperatorHas, OrderedHas, WordHas, WordMisses, ApplicationHas}
 use Rattle.isl_assumed.specs.declared.assumed.Assumed.{Assumed}

@@ -3,10 +3,9 @@ use Rattle.std.specs.Prelude.{◌↔◌}
 use Rattle.isl_space.specs.Element.{Element}
 use Rattle.isl_space.specs.Valuation.{Valuation}
 use Rattle.isl_union.specs.KeptValue.{KeptValue, Has}
-use Rattle.isl_hull.specs.Hull.{IsHullOf}
+use Rattle.isl_hull.specs.Hull.{HullHas, IsHullOf}
 use Rattle.isl_tree.specs.declared.statement.Expr.{Expr}
 use Rattle.isl_kinds.specs.Typed.{declared_of}
-use Rattle.isl_operators.specs.Hull.{HullHas}
 use Rattle.isl_state.specs.State.{StateView, AtAssumed, scope_of}
 use Rattle.isl_values.specs.Selection.{Selects}
 

@@ -11,10 +11,9 @@ hull_of-requires c =
     let space = space_form_of c.args.space.now in
     let pieces = c.args.pieces.now in
     let wide = ap₂ (λ (a b : ℕ). a + b) c.len.ensures.len c.width.ensures in
-    let same = c.as_slice.ensures.value ∙ c.in_ok-systems.ensures in
-    systems_over params c.requires.params.distinct space pieces c.args.meter.now (c.len.result + c.width.result) c.as_slice.result.now
-    wide same
-    c.requires.pieces c.requires.within
+    let same = c.in_ok-systems.ensures in
+    systems_over params c.requires.params.distinct space pieces c.args.meter.now (c.len.result + c.width.result)
+    c.in_ok-systems.systems.items wide same c.requires.pieces c.requires.within
 
 pub returns-in-None-clause-exact : goal.returns-in-None-clause-exact
 returns-in-None-clause-exact c =
@@ -22,19 +21,19 @@ returns-in-None-clause-exact c =
     let space = space_form_of c.args.space.now in
     let pieces = c.args.pieces.now in
     let wide = ap₂ (λ (a b : ℕ). a + b) c.len.ensures.len c.width.ensures in
-    let same = c.as_slice.ensures.value ∙ c.in_ok-systems.ensures in
+    let same = c.in_ok-systems.ensures in
     rw c.in-None.is at (hull_told params c.requires.params.distinct space pieces c.args.meter.now (c.len.result + c.width.result)
-    c.as_slice.result.now c.in_ok-hull_of.field-0 wide same c.in_ok-hull_of.ensures.exact)
+    c.in_ok-systems.systems.items c.in_ok-hull_of.field-0 wide same c.in_ok-hull_of.ensures.exact)
 
-pub returns-clause-exact : goal.returns-clause-exact
-returns-clause-exact c =
+pub returns-in_ok-new-in-Some-clause-exact : goal.returns-in_ok-new-in-Some-clause-exact
+returns-in_ok-new-in-Some-clause-exact c =
     let params = c.args.params.now in
     let space = space_form_of c.args.space.now in
     let pieces = c.args.pieces.now in
     let wide = ap₂ (λ (a b : ℕ). a + b) c.len.ensures.len c.width.ensures in
-    let same = c.as_slice.ensures.value ∙ c.in_ok-systems.ensures in
+    let same = c.in_ok-systems.ensures in
     let hull = c.in-Some.hull in
     let told = rw c.in-Some.is at (hull_told params c.requires.params.distinct space pieces c.args.meter.now (c.len.result + c.width.result)
-    c.as_slice.result.now c.in_ok-hull_of.field-0 wide same c.in_ok-hull_of.ensures.exact) in
+    c.in_ok-systems.systems.items c.in_ok-hull_of.field-0 wide same c.in_ok-hull_of.ensures.exact) in
     found_piece params c.requires.params.distinct space pieces c.args.meter.now c.requires.space hull c.in_ok-new-in-Some.field-0
     (c.in_ok-new-in-Some.ensures ∙ ap (λ (s : SpaceForm). piece_in s hull) c.in_ok-copy-in-Some.ensures) told

@@ -1,5 +1,4 @@
 use Rattle.std.proofs.Common.{refl, arith, ◌<◌, ◌≤◌, length}
-use Rattle.std.specs.List.{All}
 use Rattle.isl_meter.proofs.CutLemmas.{IsCharged_refl, IsCharged_trans}
 use Rattle.isl_piece.specs.System.{IsSystemWithin}
 use Rattle.isl_piece.proofs.FormedLaws.{system_within_kept}

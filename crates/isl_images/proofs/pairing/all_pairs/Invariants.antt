@@ -1,5 +1,4 @@
 use Rattle.std.proofs.Common.{take}
-use Rattle.std.specs.List.{All}
 use Rattle.isl_union.specs.Fault.{IsChargedFrom}
 use Rattle.isl_relation.specs.Together.{pairs_of, spaces_of}
 use Rattle.isl_images.specs.Made.{elements_of_all, ArePiecesOf}

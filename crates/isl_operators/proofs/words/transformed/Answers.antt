@@ -1,4 +1,3 @@
-use Rattle.isl_operators.proofs.HullLaws.{has_hull}
 use Rattle.isl_operators.proofs.words.transformed.Goals as goal
 
 pub returns-in_ok-lexmin-in-LexMin-clause-written : goal.returns-in_ok-lexmin-in-LexMin-clause-written
@@ -32,5 +31,5 @@ pub returns-in_ok-affine_hull-in-AffineHull-clause-params : goal.returns-in_ok-a
 returns-in_ok-affine_hull-in-AffineHull-clause-params c = c.in_ok-affine_hull-in-AffineHull.ensures.exact.params
 
 pub returns-in_ok-affine_hull-in-AffineHull-clause-elements : goal.returns-in_ok-affine_hull-in-AffineHull-clause-elements
-returns-in_ok-affine_hull-in-AffineHull-clause-elements c = rw c.in-AffineHull.is
-    (λ v x. has_hull c.args.operand.now v x _ (c.in_ok-affine_hull-in-AffineHull.ensures.exact.elements v x))
+returns-in_ok-affine_hull-in-AffineHull-clause-elements c =
+    rw c.in-AffineHull.is c.in_ok-affine_hull-in-AffineHull.ensures.exact.elements

@@ -26,8 +26,8 @@ aligned_over-requires-2-clause-among c =
     let second = subst IsParameterList c.params-2.ensures.content c.params-2.ensures.well_formed in
     subst (λ (l : List Name). All (Contains l) b) (sym all) (second_of_three a b t first second)
 
-pub aligned_over-requires-3-clause-among : goal.aligned_over-requires-3-clause-among
-aligned_over-requires-3-clause-among c =
+pub told_over-requires-clause-among : goal.told_over-requires-clause-among
+told_over-requires-clause-among c =
     let a = c.args.sources.now.params in
     let b = c.args.sinks.now.params in
     let t = c.args.times.now.params in

@@ -22,8 +22,12 @@ loop-definition-preserved c =
     let inside : i < length s.definitions = grind arith in
     let at : d ≡ get_or s.definitions i d = grind arith in
     let same : c.loop-definition.meter ≡ c.args.meter.now = c.loop-definition.invariant.2 in
-    let told = c.in_ok-push_definition.ensures in
-    (opened_step s i d c.loop-definition.rows c.push_definition.new.rows inside at c.loop-definition.invariant.0 told.0.0, rw same at told.0.1, told.1 ∙ same)
+    let told = c.in_ok-push_definition.ensures in (
+      opened_step s i d c.loop-definition.rows c.push_definition.new.rows inside at c.loop-definition.invariant.0 told.0.0,
+      rw same at
+          told.0.1,
+      told.1 ∙ same,
+    )
 
 pub returns : goal.returns
 returns c =
@@ -32,5 +36,6 @@ returns c =
     let i = c.loop-definition.definition-index in
     let end : i ≡ length s.definitions = grind arith in
     let same : c.loop-definition.meter ≡ g = c.loop-definition.invariant.2 in
-    let all : c.loop-definition.rows ≡ s.rows ++ definition_rows s.columns s.definitions = opened_end s i c.loop-definition.rows end c.loop-definition.invariant.0 in
+    let all : c.loop-definition.rows ≡ s.rows ++ definition_rows s.columns s.definitions =
+    opened_end s i c.loop-definition.rows end c.loop-definition.invariant.0 in
     (whole_within g s c.loop-definition.rows c.from_rows.result c.from_rows.ensures all c.loop-definition.invariant.1, same)

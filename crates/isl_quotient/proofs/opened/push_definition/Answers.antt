@@ -18,4 +18,5 @@ returns c =
     let within : IsWithin g c.in_ok-most.most.constant = grind arith in
     let kept : c.most_row.new.meter ≡ g = grind arith in
     let all = two_pushed rows c.push.new.self c.push-2.new.self c.in_ok-least.least c.in_ok-most.most least most first second same other in
-    ((all, rw all (definition_proper g c.args.columns d rows c.requires.definition c.requires.column (rw other at within) c.requires.rows)), kept)
+    let proper = definition_proper g c.args.columns d rows c.requires.definition c.requires.column (rw other at within) c.requires.rows in
+    ((all, rw all proper), kept)

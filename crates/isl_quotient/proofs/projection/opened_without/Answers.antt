@@ -1,4 +1,4 @@
-use Rattle.std.proofs.Common.{◌≡◌, ◌++◌, arith, length, List, ℕ, subst, sym}
+use Rattle.std.proofs.Common.{◌≡◌, ◌++◌, arith, length}
 use Rattle.std.specs.List.{range_with_len}
 use Rattle.std.proofs.lemmas.Result.{IfOk-weaker}
 use Rattle.isl_piece.specs.System.{IsSystemWithin, free_columns}
@@ -17,7 +17,9 @@ solved_without-requires c =
     let same : c.opened.new.meter ≡ g = grind arith in
     let within : IsSystemWithin g c.in_ok-whole.whole = grind arith in
     let all : c.as_slice.result.now ≡ cols ++ range_with_len (free_columns s) (length s.definitions) = grind arith in
-    let columns = all_columns g s c.in_ok-whole.whole cols c.as_slice.result.now c.requires.well_formed whole all c.requires.distinct c.requires.cols_in in
+    let columns =
+    all_columns g s c.in_ok-whole.whole cols c.as_slice.result.now c.requires.well_formed whole all c.requires.distinct
+    c.requires.cols_in in
     record {
       well_formed = rw same within;
       distinct = columns.0;
