@@ -3,7 +3,7 @@
 
 A word that begins an item of docs/DEFINITIONS.md must stand in `specs/` of a crate that the item or its head names. A crate or a path that
 a page names must be there; docs/EDITS.md names each edit of must-fail/, and the first line of each one in wrong/ says what it does. Prints
-each page's words (what has a letter, so that numbers, signs and the bars of tables are none), their sum, and what is not there.
+each page's words, as `wc -w` counts them, their sum, which of these are above what they may be, and what is not there.
 """
 import glob
 import os
@@ -12,6 +12,7 @@ import sys
 
 os.chdir(os.path.join(os.path.dirname(os.path.abspath(__file__)), ".."))
 CRATES = {os.path.basename(folder) for folder in glob.glob("crates/*")}
+LIMITS = {"README.md": 2700, "in all": 12000}
 EDITS = {(path.split("/")[1], os.path.basename(path)[: -len(".edit")]) for path in glob.glob("crates/*/must-fail/*.edit")}
 
 
@@ -50,19 +51,28 @@ def missing_things(text):
             yield f"no path {path}"
 
 
+def told_edits(text):
+    """The edits that the items of a page tell, each behind its crate."""
+    for item in re.findall(r"^- (.*(?:\n  .*)*)", text, re.M):
+        crate, _, rest = re.sub(r"\s+", " ", item).partition(": ")
+        yield from ((crate.strip("`"), name) for name in re.findall(r"(?:^|; )`(\w+)`", rest))
+
+
 found = list(untold())
-words = 0
-for page in ["README.md", *sorted(glob.glob("docs/*.md"))]:
+counts = {}
+for page in sorted([*glob.glob("*.md"), *glob.glob("*/*.md")]):
     with open(page) as file:
         text = file.read()
-    words += (count := sum(any(map(str.isalpha, word)) for word in text.split()))
-    print(f"{count:6} {page}")
+    counts[page] = len(text.split())
     found += [f"{page}: {what}" for what in missing_things(text)]
     if page == "docs/DEFINITIONS.md":
         found += [f"{page}: {what}" for what in missing_words(text)]
     if page == "docs/EDITS.md":
-        told = {(crate, name) for name, crate in re.findall(r"^\| `(\w+)` \| `(\w+)`", text, re.M)}
-        found += [f"{page}: {'/'.join(edit)} is not told, or not there" for edit in told ^ EDITS]
-print(f"{words:6} in all")
+        found += [f"{page}: {'/'.join(edit)} is not told, or not there" for edit in set(told_edits(text)) ^ EDITS]
+counts["in all"] = sum(counts.values())
+for page, words in counts.items():
+    print(f"{words:6} {page}")
+    if words > LIMITS.get(page, words):
+        found.append(f"{page}: more than {LIMITS[page]:,} words")
 print("\n".join(sorted(set(found))) or "all is there")
 sys.exit(bool(found))

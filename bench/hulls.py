@@ -13,9 +13,11 @@ import resource
 import subprocess
 import sys
 import time
-from fractions import Fraction
 
-WINDOW = range(-3, 4)
+sys.path.insert(0, os.path.dirname(os.path.abspath(__file__)))
+from points import points  # noqa: E402
+
+WINDOW = range(-2, 3)
 
 
 def library():
@@ -57,12 +59,10 @@ def value(rng):
 
 
 def left_of(row, basis):
-    """What is left of the row without multiples of those of the basis, each of which is kept under its first column that is not 0."""
-    row = list(map(Fraction, row))
+    """A multiple of the row without multiples of those of the basis, each of which is kept under its first column that is not 0."""
     for column, other in sorted(basis.items()):
         if row[column]:
-            factor = row[column] / other[column]
-            row = [a - factor * b for a, b in zip(row, other)]
+            row = [a * other[column] - row[column] * b for a, b in zip(row, other)]
     return row
 
 
@@ -77,8 +77,6 @@ def basis_of(rows):
 
 def is_hull(text, hull):
     """Whether the hull has in the window, space by space, exactly the points that lie on all forms which vanish at those of the value."""
-    sys.path.insert(0, os.path.dirname(os.path.abspath(__file__)))
-    from points import points
     of_value, of_hull = points(text, WINDOW), points(hull, WINDOW)
     for space in {space for space, _ in of_value | of_hull}:
         own = [numbers for other, numbers in of_value if other == space]

@@ -253,15 +253,20 @@ def lone_name(term):
 
 def points(text, window=range(-4, 5), given=None):
     """The points of a literal in a window: the text of a space, the numbers of parameters, each in `given` if that is said, and of coordinates."""
-    reader = Reader(text)
-    params, pieces = reader.literal()
-    found = set()
+    params, pieces = Reader(text).literal()
+    found, names = set(), {}
+
+    def lone(term):
+        if id(term) not in names:
+            names[id(term)] = lone_name(term)
+        return names[id(term)]
+
     for tuples, formula in pieces:
         spaces, widths = zip(*[shape(tuple) for tuple in tuples])
         ranges = [given or window] * len(params) + [window] * sum(widths)
         for point in itertools.product(*ranges):
             known, left = dict(zip(params, point)), list(point[len(params):])
-            if all([fits(tuple, left, known, lone_name) for tuple in tuples]) and formula(known):
+            if all([fits(tuple, left, known, lone) for tuple in tuples]) and formula(known):
                 found.add((" -> ".join(spaces), point))
     return found
 

@@ -1,11 +1,10 @@
 //! Calls that no script of the calculator can make: systems with defined columns, what elimination leaves of them and what it costs;
-//! values of sets and maps together, and operations that no word names; what words of the command line choose; trees of loops, their
-//! texts, and what they execute. The cases stand in the file `stdin`, whose head says how they are written. Behind them come calls that no
-//! table can name. What differs is printed, and how many cases there were.
+//! values of sets and maps together, and operations that no word names; trees of loops, their texts, and what they execute. The cases
+//! stand in the file `stdin`, whose head says how they are written. Behind them come calls that no table can name. What differs is printed,
+//! and how many cases there were.
 #![tactic(auto)]
 
 mod calls;
-mod choices;
 mod elimination;
 mod ends;
 mod limit;
@@ -21,7 +20,6 @@ mod trees;
 mod values;
 mod wanted;
 
-use choices::choices_hold;
 use elimination::is_eliminated;
 use isl_meter::{Cut, Meter};
 use std::alloc::Global;
@@ -34,7 +32,7 @@ use values::value_holds;
 // The keys of a case's lines, and what stands behind them.
 const FORMS: [(&str, Form); 6] = [
     ("# case do never at params tree text run", Form::Text),
-    ("piece operation before answer choose", Form::Text),
+    ("piece operation before answer", Form::Text),
     (
         "columns systems units empty-units sample-units budget",
         Form::Number,
@@ -68,8 +66,6 @@ fn holds(rt: &impl Print, alloc: Global, case: &str) -> io::Result<bool> {
         tree_holds(rt, alloc, case)?
     } else if field(case, "answer ").is_some() {
         value_holds(rt, alloc, case)?
-    } else if field(case, "choose ").is_some() {
-        choices_hold(rt, alloc, case)?
     } else {
         is_right(alloc, case) == Ok(true)
     };

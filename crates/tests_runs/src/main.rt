@@ -1,26 +1,22 @@
-//! Whole runs of the program over bytes in memory, and sessions that are fed in pieces. The cases stand in the file `stdin`, whose head
-//! says how they are written. What differs is printed, and how many cases there were.
+//! Sessions that are fed in pieces, which the program itself does not do, and runs over ends in memory. The cases stand in the file `stdin`,
+//! whose head says how they are written. What differs is printed, and how many cases there were.
 #![tactic(auto)]
 
-mod runs;
+mod ends;
 mod sessions;
 
-use runs::{ends_are_right, run_holds};
 use sessions::session_holds;
 use std::alloc::Global;
 use std::io;
-use tests_made::{Count, Form, field, is_case};
+use tests_made::{Count, Form, is_case};
 
 // The keys of a case's lines, and what stands behind them.
-const FORMS: [(&str, Form); 5] = [
+const FORMS: [(&str, Form); 2] = [
     (
-        "# case words script script-part out out-part err unread",
+        "# case words out err feed feed-line finish then",
         Form::Text,
     ),
-    ("feed feed-line finish then", Form::Text),
-    ("script-times out-times", Form::Counted),
-    ("script-byte reads writes room status", Form::Number),
-    ("fail-reads fail-writes fail-tells", Form::Numbers),
+    ("room", Form::Number),
 ];
 
 // Whether a case is one, and comes to what is wanted.
@@ -29,11 +25,7 @@ fn holds(rt: &impl Print, alloc: Global, case: &str) -> io::Result<bool> {
         println!(rt; "no case:\n{case}")?;
         return Ok(false);
     }
-    if field(case, "then ").is_some() {
-        session_holds(rt, alloc, case)
-    } else {
-        run_holds(rt, alloc, case)
-    }
+    session_holds(rt, alloc, case)
 }
 
 fn main(rt: HostRuntime) -> io::Result<()> {
@@ -43,8 +35,8 @@ fn main(rt: HostRuntime) -> io::Result<()> {
     for case in text.as_str().split("\n\n").skip(1) {
         count.add(holds(&rt, alloc, case)?);
     }
-    if !ends_are_right(alloc)? {
-        println!(&rt; "clean ends, or words that are refused, differ")?;
+    if !ends::are_right(alloc)? {
+        println!(&rt; "runs over ends in memory differ")?;
         count.add(false);
     }
     count.print(&rt)
