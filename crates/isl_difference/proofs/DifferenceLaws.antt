@@ -28,7 +28,7 @@ use Rattle.isl_elim.proofs.PartsLaws.{charged_bits}
 use Rattle.isl_difference.specs.Bounds.{ImplyRows, AreApartRows}
 use Rattle.isl_difference.specs.Difference.{AreDisjoint, IsPartition, IsLeftOf, IsOutside, IsDifference, IsCounted}
 use Rattle.isl_difference.specs.Split.{AreAligned, frame_of, HoldsBut, IsLive, AreLiveParts, ArePaid, HoldsBeside, IsLeftOfAny}
-use Rattle.isl_difference.specs.Tame.{part_limit, test_work, left_size}
+use Rattle.isl_difference.specs.Tame.{HasFewDifferences, part_limit, test_work, left_size}
 use Rattle.isl_difference.specs.Told.{AreTold, ExcludeOne, IsTold, SayAll}
 use Rattle.isl_difference.proofs.PartitionLaws.{any_at, any_before, any_taken, partition_none, partition_one, partition_append}
 use Rattle.isl_difference.proofs.PartitionLaws.{partition_same, partition_each}
@@ -290,7 +290,7 @@ pub record AreBeside (g h : Gauge) (systems done : List System) (other : System)
   pub counted : length left + g.units ≤ h.units + length done
   pub plain : All IsPlain done → IsPlain other → All IsPlain left
   pub tame : (columns bits : ℕ) → g.bits ≡ 127 → bits + 1 + columns ≤ 120 → All (IsDifferenceSystem columns (bits + 1)) done
-      → IsDifferenceSystem columns bits other → AreBesideWithin columns bits (length done) g h left
+      → HasFewDifferences columns bits other → AreBesideWithin columns bits (length done) g h left
   pub parts : IsPartition (IsLeftOfAny g systems) (free_columns other) (HoldsBeside done other) left
 
 pub beside_first : (g : Gauge) (systems : List System) (other : System) (left : List System) → left ≡ []
@@ -345,7 +345,7 @@ pub record IsNextTame (columns bits : ℕ) (g h : Gauge) (systems done : List Sy
 
 pub next_tame_of : (g h : Gauge) (systems done rest : List System) (other s : System) (left : List System) → done ++ s ∷ rest ≡ systems
     → AreBeside g h systems done other left → (columns bits : ℕ) → g.bits ≡ 127 → bits + 1 + columns ≤ 120
-    → All (IsDifferenceSystem columns (bits + 1)) systems → IsDifferenceSystem columns bits other
+    → All (IsDifferenceSystem columns (bits + 1)) systems → HasFewDifferences columns bits other
     → IsNextTame columns bits g h systems done s
 next_tame_of g h systems done rest other s left split so_far c b limit room all o =
     let D : System → Type 0 = IsDifferenceSystem c (b + 1) in
@@ -390,11 +390,11 @@ module _ (g h k : Gauge) (systems done rest : List System) (other s : System) (l
   -- what the system leaves without the other one
   abbrev SubtractedTame : Type 0
   SubtractedTame = (columns bits : ℕ) → h.bits ≡ 127 → bits + 1 + columns ≤ 120 → IsDifferenceSystem columns (bits + 1) s
-      → IsDifferenceSystem columns bits other
+      → HasFewDifferences columns bits other
       → (k.units ≤ h.units + part_limit columns 1 * test_work columns) × AreOfSize (left_size columns bits 1) parts
 
   all_tame : SubtractedTame → (c b : ℕ) → g.bits ≡ 127 → b + 1 + c ≤ 120 → All (IsDifferenceSystem c (b + 1)) (done ++ s ∷ [])
-      → IsDifferenceSystem c b other → AreBesideWithin c b (length (done ++ s ∷ [])) g k (left ++ parts)
+      → HasFewDifferences c b other → AreBesideWithin c b (length (done ++ s ∷ [])) g k (left ++ parts)
   all_tame tame c b limit room all o =
       let both = All-last (IsDifferenceSystem c (b + 1)) done s all in
       let before = so_far.tame c b limit room both.0 o in
@@ -436,7 +436,7 @@ pub record AreLeft (g h : Gauge) (s : System) (done left : List System) : Type 0
   pub counted : length left + g.units ≤ h.units + 1
   pub plain : IsPlain s → All IsPlain done → All IsPlain left
   pub tame : (columns bits : ℕ) → g.bits ≡ 127 → bits + 1 + columns ≤ 120 → IsDifferenceSystem columns (bits + 1) s
-      → All (IsDifferenceSystem columns bits) done → AreLeftWithin columns bits (length done) g h left
+      → All (HasFewDifferences columns bits) done → AreLeftWithin columns bits (length done) g h left
   pub difference : IsDifference g s done left
 
 pub left_first : (g : Gauge) (s : System) (left : List System) → IsSystemWithin g s → left ≡ s ∷ [] → AreLeft g g s [] left
@@ -491,13 +491,13 @@ module _ (g h : Gauge) (s : System) (others : List System) (i : ℕ) (other : Sy
   -- what the systems leave without the next one
   abbrev pub BesideTame : Gauge → List System → Type 0
   BesideTame k next = (columns bits : ℕ) → h.bits ≡ 127 → bits + 1 + columns ≤ 120 → All (IsDifferenceSystem columns (bits + 1)) left
-      → IsDifferenceSystem columns bits other → AreBesideWithin columns bits (length left) h k next
+      → HasFewDifferences columns bits other → AreBesideWithin columns bits (length left) h k next
 
   next_tame : (k : Gauge) (next : List System) → BesideTame k next → (c b : ℕ) → g.bits ≡ 127 → b + 1 + c ≤ 120
-      → IsDifferenceSystem c (b + 1) s → All (IsDifferenceSystem c b) (take i others ++ other ∷ [])
+      → IsDifferenceSystem c (b + 1) s → All (HasFewDifferences c b) (take i others ++ other ∷ [])
       → AreLeftWithin c b (length (take i others ++ other ∷ [])) g k next
   next_tame k next tame c b limit room d all =
-      let both = All-last (IsDifferenceSystem c b) (take i others) other all in
+      let both = All-last (HasFewDifferences c b) (take i others) other all in
       let before = so_far.tame c b limit room d both.0 in
       let after = tame c b (charged_bits g h so_far.charged ∙ limit) room before.size.each both.1 in
       let long : length (take i others ++ other ∷ []) ≡ length (take i others) + 1 = length-append (take i others) (other ∷ []) in
@@ -519,10 +519,10 @@ module _ (g h : Gauge) (s : System) (others : List System) (i : ℕ) (other : Sy
 -- without some of them as without all
 pub left_tame : (g h : Gauge) (s : System) (others : List System) (i n : ℕ) (left : List System) → length others ≡ n
     → AreLeft g h s (take i others) left → (c b : ℕ) → g.bits ≡ 127 → b + 1 + c ≤ 120 → IsDifferenceSystem c (b + 1) s
-    → All (IsDifferenceSystem c b) others → AreLeftWithin c b n g h left
+    → All (HasFewDifferences c b) others → AreLeftWithin c b n g h left
 left_tame g h s others i n left e d c b limit room own all =
     left_within_longer c b (length (take i others)) n g h left (let t = taken_few i others in omega arith)
-    (d.tame c b limit room own (All-take (IsDifferenceSystem c b) i others all))
+    (d.tame c b limit room own (All-take (HasFewDifferences c b) i others all))
 
 -- nothing is left
 pub left_none : (g h : Gauge) (s : System) (others : List System) (i : ℕ) (left : List System)

@@ -24,14 +24,14 @@ use Rattle.isl_piece.specs.Row.{HoldsRow, IsWellFormed, IsRowWithin}
 use Rattle.isl_piece.specs.System.{HoldRows, HoldsSystem, IsSystemWithin, free_columns}
 use Rattle.isl_piece.proofs.RowMagnitudes.{row_within_kept, rows_within_kept}
 use Rattle.isl_elim.specs.Sample.{IsNowhere}
-use Rattle.isl_ledger.specs.Difference.{IsDifferenceRow, IsDifferenceSystem}
+use Rattle.isl_ledger.specs.Difference.{HasDifferenceRows, IsDifferenceRow, IsDifferenceSystem}
 use Rattle.isl_ledger.specs.Answered.{IsTame}
 use Rattle.isl_ledger.proofs.AnsweredLaws.{tame_more}
 use Rattle.isl_ledger.proofs.DifferenceLaws.{difference_within, differences_negated}
 use Rattle.isl_elim.proofs.PartsLaws.{charged_bits}
 use Rattle.isl_difference.specs.Bounds.{ImplyRow}
 use Rattle.isl_difference.specs.Difference.{IsPartition}
-use Rattle.isl_difference.specs.Tame.{HasDifferenceRows, test_work}
+use Rattle.isl_difference.specs.Tame.{test_work}
 use Rattle.isl_difference.specs.Split.{AreExclusive, ArePaidBy, and_rows, HoldsBut, HoldsWithAny, IsLive, IsPushed}
 use Rattle.isl_difference.proofs.PartitionLaws.{any_before, partition_none, partition_append, partition_same, partition_each}
 use Rattle.isl_difference.proofs.RowCases.{rows_cases}

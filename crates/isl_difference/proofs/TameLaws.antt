@@ -19,21 +19,18 @@ use Rattle.isl_piece.specs.Meet.{over_same_columns}
 use Rattle.isl_piece.specs.Normal.{IsNormal, normal_rows, normal_system}
 use Rattle.isl_piece.specs.System.{HoldsSystem, IsSystemWithin, free_columns}
 use Rattle.isl_ledger.specs.Answered.{IsTame}
-use Rattle.isl_ledger.specs.Difference.{IsDifferenceRow, IsDifferenceSystem}
+use Rattle.isl_ledger.specs.Difference.{HasDifferenceRows, IsDifferenceRow, IsDifferenceSystem}
 use Rattle.isl_ledger.specs.Work.{AreOfSize, row_limit, pair_limit, allowance}
 use Rattle.isl_ledger.proofs.AnsweredLaws.{unit_refused_later, cut_later, memory_later}
 use Rattle.isl_ledger.proofs.NormalDifferences.{difference_wider, normal_differences}
 use Rattle.isl_ledger.proofs.NormalCounts.{rows_few}
-use Rattle.isl_ledger.proofs.SizeLaws.{of_size_append}
+use Rattle.isl_ledger.proofs.SizeLaws.{differences_of, of_size_append}
 use Rattle.isl_ledger.proofs.WorkLaws.{row_limit_more, sweeps_allowed}
 use Rattle.isl_elim.specs.Sample.{IsNowhere}
 use Rattle.isl_difference.specs.Split.{and_rows}
-use Rattle.isl_difference.specs.Tame.{HasDifferenceRows, test_work, part_limit, left_size, left_work}
+use Rattle.isl_difference.specs.Tame.{HasFewDifferences, HasNormalDifferences, test_work, part_limit, left_size, left_work}
 
 -- ---- systems
-pub differences_of : (columns bits : ℕ) (s : System) → IsDifferenceSystem columns bits s → HasDifferenceRows columns bits s
-differences_of columns bits s d = record { narrow = d.narrow; undefined = d.undefined; rows = d.rows }
-
 pub rows_wider : (few more : ℕ) (rows : List Row) → few ≤ more → All (IsDifferenceRow few) rows → All (IsDifferenceRow more) rows
 rows_wider few more rows room h =
     All-weaker (IsDifferenceRow few) (IsDifferenceRow more) (λ r d. difference_wider few more r room d) rows h
@@ -41,6 +38,15 @@ rows_wider few more rows room h =
 pub differences_wider : (columns few more : ℕ) (s : System) → few ≤ more → HasDifferenceRows columns few s → HasDifferenceRows columns more s
 differences_wider columns few more s room d =
     record { narrow = d.narrow; undefined = d.undefined; rows = rows_wider few more s.rows room d.rows }
+
+-- and of its normal rows
+pub normal_rows_of : (columns bits : ℕ) (s : System) → HasDifferenceRows columns bits s → HasNormalDifferences columns bits s
+normal_rows_of columns bits s d =
+    record { narrow = d.narrow; undefined = d.undefined; rows = normal_differences bits s.rows (λ k x l. inl (d.rows k x l)) }
+
+-- normal ones, as they are not too many where they hold together
+pub few_differences : (columns bits : ℕ) (s : System) → IsDifferenceSystem columns bits s → HasFewDifferences columns bits s
+few_differences columns bits s d = record { narrow = d.narrow; undefined = d.undefined; rows = d.rows; few = inl d.normal }
 
 -- more rows
 pub and_rows_differences : (columns bits : ℕ) (s : System) (rows : List Row) → HasDifferenceRows columns bits s
@@ -50,9 +56,8 @@ and_rows_differences columns bits s rows d h =
 
 -- the normal form
 pub normal_difference_system : (columns bits : ℕ) (s kept : System) → Some kept ≡ normal_system s → IsNormal kept.rows
-    → HasDifferenceRows columns bits s → IsDifferenceSystem columns bits kept
-normal_difference_system columns bits s kept e n d =
-    by (normal_rows s.rows) kept e n (normal_differences bits s.rows (λ k x l. inl (d.rows k x l)))
+    → HasNormalDifferences columns bits s → IsDifferenceSystem columns bits kept
+normal_difference_system columns bits s kept e n d = by (normal_rows s.rows) kept e n d.rows
   where
     by : (found : Option (List Row)) (kept : System)
         → Some kept ≡ option_map (λ rows. record { columns = s.columns; definitions = s.definitions; rows = rows }) found
@@ -88,15 +93,21 @@ rows_few_at g c b s point w d h = by (row_limit s.columns) (row_limit c)
     by r q l m = omega arith
 
 -- the rows of a system that has a point
-pub rows_few_live : (g : Gauge) (c b : ℕ) (s : System) → IsSystemWithin g s → IsDifferenceSystem c b s
+pub rows_few_live : (g : Gauge) (c b : ℕ) (s : System) → IsSystemWithin g s → HasFewDifferences c b s
     → ¬ IsNowhere (free_columns s) (HoldsSystem s) → length s.rows < row_limit c
-rows_few_live g c b s w d live = elim (cases_lt (length s.rows) (row_limit c)) [
-  | inl few ↦ few
-  | inr many ↦ absurd (live (λ point l h. not_both (length s.rows) (row_limit c) (rows_few_at g c b s point w d h) many))
+rows_few_live g c b s w d live = elim d.few [
+  | inl normal ↦ normal_few (record { narrow = d.narrow; undefined = d.undefined; normal = normal; rows = d.rows })
+  | inr few ↦ few
 ]
   where
     not_both : (m n : ℕ) → m < n → ¬ (n ≤ m)
     not_both m n l k = omega arith
+
+    normal_few : IsDifferenceSystem c b s → length s.rows < row_limit c
+    normal_few n = elim (cases_lt (length s.rows) (row_limit c)) [
+      | inl few ↦ few
+      | inr many ↦ absurd (live (λ point l h. not_both (length s.rows) (row_limit c) (rows_few_at g c b s point w n h) many))
+    ]
 
 -- ---- how many
 pub part_limit_one : (c : ℕ) → part_limit c 1 ≡ 2 * row_limit c
@@ -204,7 +215,7 @@ one_left c b s left e d = rw e (record {
 
 -- the rows of both
 pub both_differences : (c b : ℕ) (s other both : System) → both ≡ over_same_columns s other → IsDifferenceSystem c (b + 1) s
-    → IsDifferenceSystem c b other → HasDifferenceRows c (b + 1) both
+    → HasFewDifferences c b other → HasDifferenceRows c (b + 1) both
 both_differences c b s other both e d o =
     rw e (and_rows_differences c (b + 1) s other.rows (differences_of c (b + 1) s d) (rows_wider b (b + 1) other.rows (omega arith) o.rows))
 

@@ -1,15 +1,24 @@
 -- public: what may be left of systems of difference constraints without others, and within how many units. (Miné, difference-bound matrices;
 -- isl manual, on subtracting sets)
-use Rattle.std.specs.Prelude.{◌≡◌, ◌≤◌, ℕ, ◌+◌, ◌*◌, ◌^◌, [], All}
+use Rattle.std.specs.Prelude.{◌≡◌, ◌⊎◌, ◌<◌, ◌≤◌, ℕ, ◌+◌, ◌*◌, ◌^◌, [], All, IfSome, length}
 use Rattle.isl_piece.specs.declared.system.System.{System}
+use Rattle.isl_piece.specs.Normal.{IsNormal, normal_rows}
 use Rattle.isl_ledger.specs.Difference.{IsDifferenceRow}
 use Rattle.isl_ledger.specs.Work.{Size, row_limit}
 
--- a system over at most so many columns, of which none is defined, with rows that are difference constraints, normal or not
-pub record HasDifferenceRows (columns bits : ℕ) (s : System) : Type 0 where
+-- a system over at most so many columns, of which none is defined, whose normal rows are difference constraints, where none of its rows
+-- holds nowhere
+pub record HasNormalDifferences (columns bits : ℕ) (s : System) : Type 0 where
+  pub narrow : s.columns ≤ columns
+  pub undefined : s.definitions ≡ []
+  pub rows : IfSome (normal_rows s.rows) (All (IsDifferenceRow bits))
+
+-- rows that are difference constraints, and are normal, or no more than normal ones are that hold together
+pub record HasFewDifferences (columns bits : ℕ) (s : System) : Type 0 where
   pub narrow : s.columns ≤ columns
   pub undefined : s.definitions ≡ []
   pub rows : All (IsDifferenceRow bits) s.rows
+  pub few : IsNormal s.rows ⊎ (length s.rows < row_limit columns)
 
 -- a unit, and a test of one system
 abbrev pub test_work : ℕ → ℕ

@@ -9,7 +9,7 @@ ghost use Rattle.isl_ledger.specs.Work.{row_limit};
 ghost use Rattle.isl_elim.specs.Sample.{IsNowhere};
 ghost use Rattle.isl_difference.specs.Cover.{AreInside, IsInside};
 ghost use Rattle.isl_difference.specs.Difference.{IsCovered};
-ghost use Rattle.isl_difference.specs.Tame.{part_limit, test_work, left_work};
+ghost use Rattle.isl_difference.specs.Tame.{HasFewDifferences, part_limit, test_work, left_work};
 
 use crate::bounds::{are_apart, are_implied};
 use crate::difference::{align, outside};
@@ -33,7 +33,7 @@ fn is_inside_aligned(
     ensures exact { IfOk result (IsInside system.now other.now) }
     ensures meter { IsMetered meter.old meter.new result }
     ensures tame { (columns bits : ℕ) → meter.old.bits ≡ 127 → bits + 1 + columns ≤ 120 → IsDifferenceSystem columns (bits + 1) system.now
-        → IsDifferenceSystem columns bits other.now → length other.now.rows < row_limit columns
+        → HasFewDifferences columns bits other.now → length other.now.rows < row_limit columns
         → IsTame (part_limit columns 1 * test_work columns) meter.old meter.new (λ _. ⊤) result }
 {
     if are_implied(system.rows.as_slice(), other.rows.as_slice()) {
@@ -73,7 +73,7 @@ fn is_inside(alloc: Global, system: &System, other: &System, meter: &mut Meter) 
     ensures exact { IfOk result (IsInside system.now other.now) }
     ensures meter { IsMetered meter.old meter.new result }
     ensures tame { (columns bits : ℕ) → meter.old.bits ≡ 127 → bits + 1 + columns ≤ 120 → IsDifferenceSystem columns (bits + 1) system.now
-        → IsDifferenceSystem columns bits other.now → length other.now.rows < row_limit columns
+        → HasFewDifferences columns bits other.now → length other.now.rows < row_limit columns
         → IsTame (part_limit columns 1 * test_work columns) meter.old meter.new (λ _. ⊤) result }
 {
     if system.definitions.same(&other.definitions) {
@@ -97,7 +97,7 @@ fn are_inside(
     ensures meter { IsMetered meter.old meter.new result }
     ensures tame { (columns bits : ℕ) → meter.old.bits ≡ 127 → bits + 1 + columns ≤ 120
         → All (IsDifferenceSystem columns (bits + 1)) systems.now
-        → IsDifferenceSystem columns bits other.now → length other.now.rows < row_limit columns
+        → HasFewDifferences columns bits other.now → length other.now.rows < row_limit columns
         → IsTame (length systems.now * (part_limit columns 1 * test_work columns)) meter.old meter.new (λ _. ⊤) result }
 {
     for system in systems {
@@ -129,7 +129,7 @@ pub fn is_covered(
         → IfOk result (λ covered. IsCovered system.now (map (λ other. other.now) others.now) → IsTrue covered) }
     ensures meter { IsMetered meter.old meter.new result }
     ensures tame { (columns bits : ℕ) → meter.old.bits ≡ 127 → bits + 1 + columns ≤ 120 → IsDifferenceSystem columns (bits + 1) system.now
-        → All (IsDifferenceSystem columns bits) (map (λ other. other.now) others.now)
+        → All (HasFewDifferences columns bits) (map (λ other. other.now) others.now)
         → All (λ other. ¬ IsNowhere (free_columns other) (HoldsSystem other)) (map (λ other. other.now) others.now)
         → IsTame (left_work columns (length others.now)) meter.old meter.new (λ _. ⊤) result }
 {

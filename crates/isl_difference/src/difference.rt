@@ -10,7 +10,7 @@ ghost use Rattle.isl_ledger.specs.Difference.{IsDifferenceSystem};
 ghost use Rattle.isl_ledger.specs.Work.{AreOfSize};
 ghost use Rattle.isl_difference.specs.Difference.{AreDisjoint, IsCounted, IsDifference, IsPartition};
 ghost use Rattle.isl_difference.specs.Split.{frame_of, AreAligned, AreLiveParts, ArePaid, HoldsBeside, IsLeftOfAny};
-ghost use Rattle.isl_difference.specs.Tame.{part_limit, test_work, left_size, left_work};
+ghost use Rattle.isl_difference.specs.Tame.{HasFewDifferences, part_limit, test_work, left_size, left_work};
 ghost use Rattle.isl_difference.specs.Told.{AreTold, IsTold};
 
 use crate::bounds::{are_apart, are_implied};
@@ -54,7 +54,7 @@ fn parts_asked(
     ensures paid { IfOk result (λ found. IfSome found (λ parts. ArePaid meter.old meter.new parts.items)) }
     ensures asked { IfOk result (λ _. meter.old.units < meter.new.units) }
     ensures tame { (columns bits : ℕ) → meter.old.bits ≡ 127 → bits + 1 + columns ≤ 120 → IsDifferenceSystem columns (bits + 1) system.now
-        → IsDifferenceSystem columns bits other.now
+        → HasFewDifferences columns bits other.now
         → IsTame (part_limit columns 1 * test_work columns) meter.old meter.new
         (λ found. IfSome found (λ parts. AreOfSize (left_size columns bits 1) parts.items)) result }
 {
@@ -89,7 +89,7 @@ fn parts_aligned(
     ensures told { AreTold system.now.rows other.now.rows → IsAnsweredWithin 0 meter.old meter.new result }
     ensures asked { ¬ AreTold system.now.rows other.now.rows → IfOk result (λ _. meter.old.units < meter.new.units) }
     ensures tame { (columns bits : ℕ) → meter.old.bits ≡ 127 → bits + 1 + columns ≤ 120 → IsDifferenceSystem columns (bits + 1) system.now
-        → IsDifferenceSystem columns bits other.now
+        → HasFewDifferences columns bits other.now
         → IsTame (part_limit columns 1 * test_work columns) meter.old meter.new
         (λ found. IfSome found (λ parts. AreOfSize (left_size columns bits 1) parts.items)) result }
 {
@@ -176,7 +176,7 @@ fn parts_outside(
     ensures told { IsTold system.now other.now → IsAnsweredWithin 0 meter.old meter.new result }
     ensures asked { ¬ IsTold system.now other.now → IfOk result (λ _. meter.old.units < meter.new.units) }
     ensures tame { (columns bits : ℕ) → meter.old.bits ≡ 127 → bits + 1 + columns ≤ 120 → IsDifferenceSystem columns (bits + 1) system.now
-        → IsDifferenceSystem columns bits other.now
+        → HasFewDifferences columns bits other.now
         → IsTame (part_limit columns 1 * test_work columns) meter.old meter.new
         (λ found. IfSome found (λ parts. AreOfSize (left_size columns bits 1) parts.items)) result }
 {
@@ -215,7 +215,7 @@ pub fn subtract(
     ensures told { IsTold system.now other.now → IsAnsweredWithin 0 meter.old meter.new result }
     ensures asked { ¬ IsTold system.now other.now → IfOk result (λ _. meter.old.units < meter.new.units) }
     ensures tame { (columns bits : ℕ) → meter.old.bits ≡ 127 → bits + 1 + columns ≤ 120 → IsDifferenceSystem columns (bits + 1) system.now
-        → IsDifferenceSystem columns bits other.now
+        → HasFewDifferences columns bits other.now
         → IsTame (part_limit columns 1 * test_work columns) meter.old meter.new
         (λ left. AreOfSize (left_size columns bits 1) left.items) result }
 {
@@ -255,7 +255,7 @@ fn all_without(
     ensures counted { IfOk result (λ left. length left.items + meter.old.units ≤ meter.new.units + length systems.items) }
     ensures tame { (columns bits : ℕ) → meter.old.bits ≡ 127 → bits + 1 + columns ≤ 120
         → All (IsDifferenceSystem columns (bits + 1)) systems.items
-        → IsDifferenceSystem columns bits other.now
+        → HasFewDifferences columns bits other.now
         → IsTame (length systems.items * (part_limit columns 1 * test_work columns)) meter.old meter.new
         (λ left. AreOfSize (record { pieces = length systems.items * part_limit columns 1; columns = columns; bits = bits + 1 })
         left.items) result }
@@ -293,7 +293,7 @@ pub fn outside(
         → IfOk result (λ left. All (λ s. s.definitions ≡ []) left.items) }
     ensures counted { IfOk result (λ left. length left.items + meter.old.units ≤ meter.new.units + 1) }
     ensures tame { (columns bits : ℕ) → meter.old.bits ≡ 127 → bits + 1 + columns ≤ 120 → IsDifferenceSystem columns (bits + 1) system.now
-        → All (IsDifferenceSystem columns bits) (map (λ other. other.now) others.now)
+        → All (HasFewDifferences columns bits) (map (λ other. other.now) others.now)
         → IsTame (left_work columns (length others.now)) meter.old meter.new
         (λ left. AreOfSize (left_size columns bits (length others.now)) left.items) result }
 {

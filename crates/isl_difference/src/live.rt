@@ -1,14 +1,16 @@
 //! Normal systems that have a point.
 
-ghost use Rattle.std.specs.Prelude.{◌≡◌, ◌↔◌, ◌+◌, ◌*◌, ◌≤◌, ℕ, ⊤, All, IfOk, IfSome, IsTrue, MatchOption, MatchResult};
+ghost use Rattle.std.specs.Prelude.{◌≡◌, ◌↔◌, ◌+◌, ◌*◌, ◌≤◌, ℕ, ⊤, [], All, IfOk, IfSome, IsTrue, MatchOption, MatchResult, Some};
 ghost use Rattle.isl_meter.specs.Gauge.{IsCharged, IsCutBy};
-ghost use Rattle.isl_piece.specs.Normal.{IsNormal};
+ghost use Rattle.isl_piece.specs.declared.system.System.{System};
+ghost use Rattle.isl_piece.specs.Normal.{IsNormal, normal_system};
 ghost use Rattle.isl_piece.specs.System.{HoldsSystem, IsSystemWithin, free_columns};
 ghost use Rattle.isl_ledger.specs.Answered.{IsTame};
-ghost use Rattle.isl_ledger.specs.Difference.{IsDifferenceSystem};
+ghost use Rattle.isl_ledger.specs.Difference.{HasDifferenceRows, IsDifferenceSystem};
 ghost use Rattle.isl_elim.specs.Sample.{IsNowhere};
+ghost use Rattle.isl_elim.specs.Spent.{IsSpentOn};
 ghost use Rattle.isl_difference.specs.Split.{IsLiveFormOf, IsPushed};
-ghost use Rattle.isl_difference.specs.Tame.{HasDifferenceRows};
+ghost use Rattle.isl_difference.specs.Tame.{HasNormalDifferences};
 
 use isl_elim::is_normal_empty;
 use isl_meter::{Cut, Meter};
@@ -22,13 +24,14 @@ fn is_void(alloc: Global, system: &System, meter: &mut Meter) -> Result<bool, Cu
     ensures exact { MatchResult result
         (λ empty. (IsTrue empty ↔ IsNowhere (free_columns system.now) (HoldsSystem system.now)) × IsCharged meter.old meter.new)
         (IsCutBy meter.old meter.new) }
+    ensures one { system.now.definitions ≡ [] → system.now.columns ≡ 1 → IsSpentOn system.now.rows 0 meter.old meter.new result }
     ensures tame { (columns bits : ℕ) → meter.old.bits ≡ 127 → bits + columns ≤ 120 → IsDifferenceSystem columns bits system.now
         → IsTame (columns * (columns * columns)) meter.old meter.new (λ _. ⊤) result }
 {
     is_normal_empty(alloc, system, meter)
 }
 
-/// The system in its normal form; none where it holds at no point.
+/// The system in its normal form; none where it holds at no point. Of one column its normal rows cost what elimination of it does.
 ///
 /// # Errors
 ///
@@ -39,7 +42,9 @@ pub fn live_form(alloc: Global, system: System, meter: &mut Meter) -> Result<Opt
         (λ found. MatchOption found (IsNowhere (free_columns system) (HoldsSystem system)) (IsLiveFormOf meter.old system)
         × IsCharged meter.old meter.new)
         (IsCutBy meter.old meter.new) }
-    ensures tame { (columns bits : ℕ) → meter.old.bits ≡ 127 → bits + columns ≤ 120 → HasDifferenceRows columns bits system
+    ensures one { (normal : System) → normal_system system ≡ Some normal → system.definitions ≡ [] → system.columns ≡ 1
+        → IsSpentOn normal.rows 0 meter.old meter.new result }
+    ensures tame { (columns bits : ℕ) → meter.old.bits ≡ 127 → bits + columns ≤ 120 → HasNormalDifferences columns bits system
         → IsTame (columns * (columns * columns)) meter.old meter.new (λ found. IfSome found (IsDifferenceSystem columns bits)) result }
 {
     let Some(normal) = normalise(alloc, system, meter)? else {

@@ -6,12 +6,12 @@ ghost use Rattle.isl_piece.specs.Negation.{negation_of};
 ghost use Rattle.isl_piece.specs.Row.{IsRowWithin, IsWellFormed};
 ghost use Rattle.isl_piece.specs.System.{IsSystemWithin, free_columns};
 ghost use Rattle.isl_ledger.specs.Answered.{IsTame};
-ghost use Rattle.isl_ledger.specs.Difference.{IsDifferenceRow, IsDifferenceSystem};
+ghost use Rattle.isl_ledger.specs.Difference.{HasDifferenceRows, IsDifferenceRow, IsDifferenceSystem};
 ghost use Rattle.isl_ledger.specs.Work.{AreOfSize};
 ghost use Rattle.isl_elim.specs.Sample.{IsNowhere};
 ghost use Rattle.isl_difference.specs.Difference.{IsPartition};
 ghost use Rattle.isl_difference.specs.Split.{AreExclusive, ArePaidBy, and_rows, HoldsBut, HoldsWithAny, IsLive};
-ghost use Rattle.isl_difference.specs.Tame.{HasDifferenceRows, test_work};
+ghost use Rattle.isl_difference.specs.Tame.{test_work};
 
 use crate::bounds::is_implied;
 use crate::lists::append;

@@ -15,8 +15,8 @@ use Rattle.isl_piece.specs.Normal.{IsNormal}
 use Rattle.isl_piece.specs.Row.{IsWellFormed, IsRowWithin}
 use Rattle.isl_piece.specs.System.{HoldRows}
 use Rattle.isl_piece.proofs.RowMagnitudes.{row_within_kept}
-use Rattle.isl_shadows.specs.Column.{HoldAtAny}
-use Rattle.isl_omega.specs.Column.{IsProper}
+use Rattle.isl_shadows.specs.Column.{HoldAtAny, HoldAtSome}
+use Rattle.isl_omega.specs.Column.{AreRowsOf, IsProper}
 use Rattle.isl_elim.specs.Elimination.{without, HoldsAlong, AddsAlong}
 use Rattle.isl_simpler.specs.Emptiness.{HoldNowhere}
 use Rattle.isl_elim.specs.Others.{others_of}
@@ -24,6 +24,7 @@ use Rattle.isl_column.specs.Parts.{PartsView, AreParts, ArePartsOf, IsNextPart, 
 use Rattle.isl_column.proofs.PartsLemmas.{parts_kept}
 use Rattle.isl_elim.proofs.PartsLaws.{charged_bits, next_proper, parts_after}
 use Rattle.isl_elim.proofs.EmptinessLaws.{insert-remove}
+use Rattle.isl_elim.proofs.NarrowLaws.{narrow_low}
 use Rattle.isl_elim.proofs.OthersLaws.{among, without_insert, without_none, others_count, others_distinct, others_inside, among_at}
 
 -- ---- no column
@@ -114,12 +115,17 @@ pushed_all g h columns cols first now old new a none = record {
 }
 
 -- ---- one column, and then the others
-pub along_column : (g h : Gauge) (columns col : ℕ) (cols : List ℕ) (rows : List Row) (parts : PartsView) (old new : List (List Row)) → AllPairs (λ a b. a ≢ b) cols → among col cols ≡ true → col < columns → IsCharged g h
-    → ArePartsOf g columns col rows parts → AddsAlong h (columns - 1) (others_of col cols) (HoldsPart parts) old new → AddsAlong g columns cols (HoldRows rows) old new
-along_column g h columns col cols rows parts old new d m i c a b = record {
+-- what some number at the column makes hold
+pub along_some : (g h : Gauge) (columns col : ℕ) (cols : List ℕ) (rows : List Row) (P : List ℤ → Type 0) (old new : List (List Row))
+    → AllPairs (λ a b. a ≢ b) cols → among col cols ≡ true → col < columns → IsCharged g h
+    → ((point : List ℤ) → length point ≡ columns - 1 → P point ↔ HoldAtSome rows col point)
+    → AddsAlong h (columns - 1) (others_of col cols) P old new → AddsAlong g columns cols (HoldRows rows) old new
+along_some g h columns col cols rows P old new d m i c f b = record {
   added = b.added;
   pushed = b.pushed;
-  proper = λ k z j. rw count (λ n y l. let q = b.proper k z j n y l in record { formed = q.formed; within = row_within_kept g h (get_or (get_or b.added k z) n y) (charged_bits g h c) q.within });
+  proper = λ k z j. rw count (λ n y l.
+      let q = b.proper k z j n y l in
+      record { formed = q.formed; within = row_within_kept g h (get_or (get_or b.added k z) n y) (charged_bits g h c) q.within });
   normal = b.normal;
   points = λ point l. let same = b.points point (l ∙ count) in (
     (λ x. forth point (same.0 x)),
@@ -130,28 +136,41 @@ along_column g h columns col cols rows parts old new d m i c a b = record {
     count : columns - length cols ≡ columns - 1 - length (others_of col cols)
     count = let n = others_count col cols d m in omega (arith, n)
 
-    forth : (point : List ℤ) → HoldsAlong (columns - 1) (others_of col cols) (HoldsPart parts) point → HoldsAlong columns cols (HoldRows rows) point
+    forth : (point : List ℤ) → HoldsAlong (columns - 1) (others_of col cols) P point → HoldsAlong columns cols (HoldRows rows) point
     forth point x =
-        let y = (a.points x.0 x.1).0 x.3 in
+        let y = (f x.0 x.1).0 x.3 in
         let short = x.1 in
         let inside : col ≤ length x.0 = omega (arith, short, i) in
         let long = length-insert x.0 col y.0 inside in
         (insert x.0 col y.0, omega (arith, long, short, i), without_insert cols col x.0 y.0 m inside ∙ x.2, y.1)
 
-    back : (point : List ℤ) → HoldsAlong columns cols (HoldRows rows) point → HoldsAlong (columns - 1) (others_of col cols) (HoldsPart parts) point
+    back : (point : List ℤ) → HoldsAlong columns cols (HoldRows rows) point → HoldsAlong (columns - 1) (others_of col cols) P point
     back point x =
         let whole = x.0 in
         let full = x.1 in
         let again = insert-remove whole col (omega (arith, full, i)) in
         let short = length-remove whole col (omega (arith, full, i)) in
         let rest : length (remove whole col) ≡ columns - 1 = omega (arith, short, full) in
-        let left = without_insert cols col (remove whole col) (get_or whole col (pos 0)) m (omega (arith, rest, i)) in
-        (remove whole col, rest, sym left ∙ ap (without cols) again ∙ x.2, (a.points (remove whole col) rest).1 (get_or whole col (pos 0), rw again x.3))
+        let left = without_insert cols col (remove whole col) (get_or whole col (pos 0)) m (omega (arith, rest, i)) in (
+          remove whole col,
+          rest,
+          sym left ∙ ap (without cols) again ∙ x.2,
+          (f (remove whole col) rest).1 (get_or whole col (pos 0), rw again x.3),
+        )
+
+pub along_narrow : {A : Type 0} (g k : Gauge) (columns col : ℕ) (cols : List ℕ) (rows : List Row) (old new : List (List Row)) (result : Result A Cut)
+    → AllPairs (λ a b. a ≢ b) cols → among col cols ≡ true → col < columns
+    → MatchResult result (λ _. AddsAlong g (columns - 1) (others_of col cols) (HoldAtSome rows col) old new × IsCharged g k) (IsCutBy g k)
+    → MatchResult result (λ _. AddsAlong g columns cols (HoldRows rows) old new × IsCharged g k) (IsCutBy g k)
+along_narrow g k columns col cols rows old new (Ok v) d m i r =
+    (along_some g g columns col cols rows (HoldAtSome rows col) old new d m i (IsCharged_refl g g refl) (λ point l. ((λ h. h), (λ h. h))) r.0, r.1)
+along_narrow g k columns col cols rows old new (Err cut) d m i r = r
 
 pub along_after : {A : Type 0} (g h k : Gauge) (columns col : ℕ) (cols : List ℕ) (rows : List Row) (parts : PartsView) (old new : List (List Row)) (result : Result A Cut) → AllPairs (λ a b. a ≢ b) cols → among col cols ≡ true → col < columns → IsCharged g h
     → ArePartsOf g columns col rows parts → MatchResult result (λ _. AddsAlong h (columns - 1) (others_of col cols) (HoldsPart parts) old new × IsCharged h k) (IsCutBy h k)
     → MatchResult result (λ _. AddsAlong g columns cols (HoldRows rows) old new × IsCharged g k) (IsCutBy g k)
-along_after g h k columns col cols rows parts old new (Ok v) d m i c a r = (along_column g h columns col cols rows parts old new d m i c a r.0, IsCharged_trans g h k c r.1)
+along_after g h k columns col cols rows parts old new (Ok v) d m i c a r =
+    (along_some g h columns col cols rows (HoldsPart parts) old new d m i c a.points r.0, IsCharged_trans g h k c r.1)
 along_after g h k columns col cols rows parts old new (Err cut) d m i c a r = IsCutBy-after g h k cut c r
 
 -- ---- how many lists
@@ -180,18 +199,33 @@ pub columns_after : (n col : ℕ) (cols left : List ℕ) → left ≡ others_of 
     → All (λ c. c < n) cols → AllPairs (λ a b. a ≢ b) left × All (λ c. c < n - 1) left
 columns_after n col cols left e d i a = rw e (others_distinct col cols d, others_inside n col cols i a)
 
--- ---- normal rows
-pub along_normal : (g : Gauge) (columns : ℕ) (cols : List ℕ) (rows normal : List Row) (old new : List (List Row)) → ((point : List ℤ) → HoldRows normal point ↔ HoldRows rows point) → AddsAlong g columns cols (HoldRows normal) old new → AddsAlong g columns cols (HoldRows rows) old new
-along_normal g columns cols rows normal old new same a = record {
+-- ---- the same points
+pub along_same : (g : Gauge) (columns : ℕ) (cols : List ℕ) (P Q : List ℤ → Type 0) (old new : List (List Row))
+    → ((point : List ℤ) → length point ≡ columns → P point ↔ Q point) → AddsAlong g columns cols P old new → AddsAlong g columns cols Q old new
+along_same g columns cols P Q old new same a = record {
   added = a.added;
   pushed = a.pushed;
   proper = a.proper;
   normal = a.normal;
   points = λ point l. let p = a.points point l in (
-    (λ h. let x = p.0 h in (x.0, x.1, x.2, (same x.0).0 x.3)),
-    (λ x. p.1 (x.0, x.1, x.2, (same x.0).1 x.3)),
+    (λ h. let x = p.0 h in (x.0, x.1, x.2, (same x.0 x.1).0 x.3)),
+    (λ x. p.1 (x.0, x.1, x.2, (same x.0 x.1).1 x.3)),
   );
 }
+
+pub along_normal : (g : Gauge) (columns : ℕ) (cols : List ℕ) (rows normal : List Row) (old new : List (List Row))
+    → ((point : List ℤ) → HoldRows normal point ↔ HoldRows rows point) → AddsAlong g columns cols (HoldRows normal) old new
+    → AddsAlong g columns cols (HoldRows rows) old new
+along_normal g columns cols rows normal old new same =
+    along_same g columns cols (HoldRows normal) (HoldRows rows) old new (λ point l. same point)
+
+-- what is left without a column, of normal rows for it
+pub along_rows : {A : Type 0} (g h : Gauge) (columns : ℕ) (cols : List ℕ) (P : List ℤ → Type 0) (rows : List Row) (old new : List (List Row))
+    (result : Result A Cut) → AreRowsOf g columns P rows
+    → MatchResult result (λ _. AddsAlong g columns cols (HoldRows rows) old new × IsCharged g h) (IsCutBy g h)
+    → MatchResult result (λ _. AddsAlong g columns cols P old new × IsCharged g h) (IsCutBy g h)
+along_rows g h columns cols P rows old new (Ok v) k r = (along_same g columns cols (HoldRows rows) P old new k.points r.0, r.1)
+along_rows g h columns cols P rows old new (Err cut) k r = r
 
 pub along_false : (g : Gauge) (columns : ℕ) (cols : List ℕ) (rows : List Row) (old new : List (List Row)) → new ≡ old → ((point : List ℤ) → ¬ HoldRows rows point) → AddsAlong g columns cols (HoldRows rows) old new
 along_false g columns cols rows old new e none = record {
@@ -202,16 +236,20 @@ along_false g columns cols rows old new e none = record {
   points = λ point l. ((λ h. absurd (Any-none (λ (r : List Row). HoldRows r point) h)), (λ x. absurd (none x.0 x.3)));
 }
 
--- rows that hold nowhere leave nothing
-pub along_nowhere : (g : Gauge) (columns : ℕ) (cols : List ℕ) (rows : List Row) (lists : List (List Row)) → HoldNowhere columns rows
-    → AddsAlong g columns cols (HoldRows rows) lists lists
-along_nowhere g columns cols rows lists none = record {
+-- what holds nowhere leaves nothing
+pub along_none_of : (g : Gauge) (columns : ℕ) (cols : List ℕ) (P : List ℤ → Type 0) (lists : List (List Row))
+    → ((point : List ℤ) → length point ≡ columns → ¬ P point) → AddsAlong g columns cols P lists lists
+along_none_of g columns cols P lists none = record {
   added = [];
   pushed = sym (append-nil lists);
   proper = All-nil (λ (rows : List Row). All (IsProper g (columns - length cols)) rows);
   normal = All-nil IsNormal;
   points = λ point l. ((λ h. absurd (Any-none (λ (r : List Row). HoldRows r point) h)), (λ x. absurd (none x.0 x.1 x.3)));
 }
+
+pub along_nowhere : (g : Gauge) (columns : ℕ) (cols : List ℕ) (rows : List Row) (lists : List (List Row)) → HoldNowhere columns rows
+    → AddsAlong g columns cols (HoldRows rows) lists lists
+along_nowhere g columns cols rows lists none = along_none_of g columns cols (HoldRows rows) lists none
 
 -- what is added after units were used
 pub along_charged : {A : Type 0} (g h k : Gauge) (columns : ℕ) (cols : List ℕ) (rows : List Row) (old new : List (List Row))
@@ -242,4 +280,4 @@ counted_charged {A} g h k old new result c p =
 pub proper_rows : (g : Gauge) (columns : ℕ) (rows : List Row) → All (IsWellFormed columns) rows → All (IsRowWithin g) rows → All (IsProper g columns) rows
 proper_rows g columns rows f w = λ k d i. record { formed = f k d i; within = w k d i }
 
-pub ruleset along_steps = (charges, next_proper, parts_after, along_none, pushed_first, pushed_next, pushed_all, others_distinct, others_inside, along_normal, along_false, proper_rows)
+pub ruleset along_steps = (charges, next_proper, parts_after, along_none, pushed_first, pushed_next, pushed_all, others_distinct, others_inside, along_normal, along_false, proper_rows, narrow_low)

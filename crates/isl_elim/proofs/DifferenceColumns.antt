@@ -301,7 +301,7 @@ module _ (g : Gauge) (columns bits col : ℕ) (rows : List Row) (inside : col < 
   ]
 
   -- ---- what it costs
-  pub column_tame : {A : Type 0} (h : Gauge) (result : Result A Cut) → g.bits ≡ 127 → bits + columns ≤ 120
+  pub column_tame : {A : Type 0} (h : Gauge) (result : Result A Cut) → g.bits ≡ 127 → bits + 1 ≤ 120
       → IsTameColumn g h rows col result
       → IsTame (columns * columns) g h (λ _. Unit {0}) result
   column_tame {A = A} h result full room p = elim (equality_or_none col rows) [

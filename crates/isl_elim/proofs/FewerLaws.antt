@@ -18,7 +18,7 @@ use Rattle.isl_simpler.specs.Fixed.{HoldAlike}
 use Rattle.isl_simpler.specs.Shear.{IsReduction}
 use Rattle.isl_redundant.proofs.KeptLaws.{reduced_first}
 use Rattle.isl_elim.specs.Sample.{IsSample, IsNowhere}
-use Rattle.isl_elim.proofs.AlongLaws.{proper_rows}
+use Rattle.isl_elim.proofs.AlongLaws.{along_same, proper_rows}
 
 -- all of them
 pub formed_rows : (g : Gauge) (columns : ℕ) (rows : List Row) → All (IsProper g columns) rows → All (IsWellFormed columns) rows
@@ -68,19 +68,7 @@ pub along_alike : {A : Type 0} (g h : Gauge) (columns : ℕ) (cols : List ℕ) (
     → MatchResult result (λ _. AddsAlong g columns cols (HoldRows few) old new × IsCharged g h) (IsCutBy g h)
     → MatchResult result (λ _. AddsAlong g columns cols (HoldRows rows) old new × IsCharged g h) (IsCutBy g h)
 along_alike g h columns cols rows few old new (Ok v) k r =
-    let a = r.0 in (
-      record {
-        added = a.added;
-        pushed = a.pushed;
-        proper = a.proper;
-        normal = a.normal;
-        points = λ point l. let p = a.points point l in (
-          (λ x. let y = p.0 x in (y.0, y.1, y.2, (k.points y.0 y.1).0 y.3)),
-          (λ y. p.1 (y.0, y.1, y.2, (k.points y.0 y.1).1 y.3)),
-        );
-      },
-      r.1,
-    )
+    (along_same g columns cols (HoldRows few) (HoldRows rows) old new k.points r.0, r.1)
 along_alike g h columns cols rows few old new (Err cut) k r = r
 
 -- ---- samples

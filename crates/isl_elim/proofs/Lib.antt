@@ -8,12 +8,15 @@ pub mod FlattenLaws
 pub mod GivenLaws
 pub mod KeptLaws
 pub mod LeftLaws
+pub mod NarrowLaws
 pub mod OpenedLaws
+pub mod OppositeLaws
 pub mod OthersLaws
 pub mod PartsLaws
 pub mod ProjectionLaws
 pub mod RangeLaws
 pub mod SampleLaws
 pub mod SolvedLaws
+pub mod SpentLaws
 pub mod TameLaws
 pub mod TameSystems

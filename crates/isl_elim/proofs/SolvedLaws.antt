@@ -194,8 +194,8 @@ all_short fixed col rows short i e long front =
     sym (take_all i short (omega arith)) ∙ front ∙ ap (short_images_of fixed col) (take_all i rows (omega arith))
 
 -- ---- difference constraints are substituted without an overflow
-pub one_fits : (g h : Gauge) (bits columns : ℕ) → h ≡ g → g.bits ≡ 127 → bits + columns ≤ 120 → 1 * 2 ^ bits + 1 * 2 ^ bits < 2 ^ h.bits
-one_fits g h bits columns e full room = rw (e, full) (pair_fits bits 127 (omega arith))
+pub one_fits : (g h : Gauge) (bits : ℕ) → h ≡ g → g.bits ≡ 127 → bits + 1 ≤ 120 → 1 * 2 ^ bits + 1 * 2 ^ bits < 2 ^ h.bits
+one_fits g h bits e full room = rw (e, full) (pair_fits bits 127 (omega arith))
 
 pub one_up_to : (g : Gauge) (columns bits col : ℕ) (rows : List Row) (i : ℕ) (row : Row) → All (IsProper g columns) rows
     → All (IsDifferenceRow bits) rows → col < columns → i < length rows → row ≡ get_or rows i row → IsRowUpToAt col 1 (2 ^ bits) row

@@ -123,7 +123,7 @@ pub record IsHeadPushed (g h : Gauge) (columns gone taken bits : ℕ) (now : Par
 
 -- where the parts are difference constraints
 pub record ArePushedTame (g h : Gauge) (columns gone taken : ℕ) (first now : PartsView) (old new : List (List Row)) : Type 0 where
-  pub pushed : (bits : ℕ) → g.bits ≡ 127 → bits + columns ≤ 120 → IsDifferenceHead first bits
+  pub pushed : (bits : ℕ) → g.bits ≡ 127 → bits + gone ≤ 120 → IsDifferenceHead first bits
       → IsHeadPushed g h columns gone taken bits now old new
 
 pub pushed_tame_first : (g : Gauge) (columns gone : ℕ) (parts : PartsView) (old : List (List Row))

@@ -22,7 +22,8 @@ use Rattle.isl_ledger.specs.Answered.{IsTame}
 use Rattle.isl_ledger.proofs.AnsweredLaws.{answered_more}
 use Rattle.isl_ledger.proofs.NormalDifferences.{normal_differences}
 use Rattle.isl_ledger.specs.Difference.{IsDifferenceRow, IsDifferenceSystem}
-use Rattle.isl_ledger.specs.Work.{Size, AreOfSize, drop_size}
+use Rattle.isl_ledger.specs.Work.{Size, AreOfSize, HasSize, drop_size}
+use Rattle.isl_ledger.proofs.SizeLaws.{one_system}
 use Rattle.isl_elim.specs.Dependents.{narrowed, dependents_from, with_dependents, kept_definitions}
 use Rattle.isl_elim.specs.Elimination.{without_from, system_of}
 use Rattle.isl_elim.specs.Opened.{definition_rows, only_from, opened_rows}
@@ -44,17 +45,14 @@ some_differences N columns bits rows None h r = tt
 some_differences N columns bits rows (Some few) h r = some_all (IsDifferenceRow bits) few rows r.some h
 
 -- ---- systems
-pub size_of_one : (size : Size) (s : System) → AreOfSize size (s ∷ []) → IsDifferenceSystem size.columns size.bits s
-size_of_one size s of = All-head (IsDifferenceSystem size.columns size.bits) s [] of.each
-
-pub plain_of_one : (size : Size) (s : System) → AreOfSize size (s ∷ []) → IsPlainDifference s size.bits
-plain_of_one size s of = let d = size_of_one size s of in record { undefined = d.undefined; normal = d.normal; rows = d.rows }
+pub plain_of_one : (size : Size) (s : System) → HasSize size s → IsPlainDifference s size.bits
+plain_of_one size s of = let d = of.rows in record { undefined = d.undefined; rows = d.rows }
 
 -- a system of the rows that are left
 pub size_of_few : (size : Size) (s : System) (few : List Row) → AreOfSize size (s ∷ []) → IsReduced s.columns s.rows few
     → AreOfSize size (system_of s.columns s.definitions few ∷ [])
 size_of_few size s few of k =
-    let d = size_of_one size s of in
+    let d = one_system size s of in
     let t : System = system_of s.columns s.definitions few in
     record {
       few = of.few;
@@ -75,24 +73,24 @@ pub kept_plain : (s : System) (cols : List ℕ) → s.definitions ≡ [] → kep
 kept_plain s cols e =
     ap (λ (ds : List Definition). map (narrowed (with_dependents s cols)) (without_from (free_columns s) (with_dependents s cols) ds)) e
 
-pub room_left : (size : Size) (s : System) → AreOfSize size (s ∷ []) → size.bits + size.columns ≤ 120 → size.bits + s.columns ≤ 120
-room_left size s of room = let n = (size_of_one size s of).narrow in omega arith
+pub room_left : (size : Size) (s : System) → HasSize size s → size.bits + size.columns ≤ 120 → size.bits + s.columns ≤ 120
+room_left size s of room = let n = of.rows.narrow in omega arith
 
-pub units_left : (size : Size) (s : System) (n : ℕ) → AreOfSize size (s ∷ [])
+pub units_left : (size : Size) (s : System) (n : ℕ) → HasSize size s
     → n * (s.columns * s.columns) ≤ n * (size.columns * size.columns)
-units_left size s n of = mul-le-mul_left n (square_more s.columns size.columns (size_of_one size s of).narrow)
+units_left size s n of = mul-le-mul_left n (square_more s.columns size.columns of.rows.narrow)
 
 -- what is left of a system without the columns
 pub size_dropped : (size : Size) (s : System) (cols : List ℕ) (left : System) (lists : List (List Row)) (systems : List System)
-    → AreOfSize size (s ∷ [])
+    → HasSize size s
     → left.definitions ≡ kept_definitions s cols → left.columns ≡ s.columns - length (with_dependents s cols)
     → systems ≡ map (system_of left.columns left.definitions) lists → All (λ t. IsNormal t.rows) systems
     → AreFewDifferences (size.bits + length cols) lists → AreOfSize (drop_size (length cols) size) systems
 size_dropped size s cols left lists systems of kept columns is normal few = rw is (record {
-  few = let one = of.few in let count = length-map lists (system_of left.columns left.definitions) in let f = few.few in omega arith;
+  few = let one = of.some in let count = length-map lists (system_of left.columns left.definitions) in let f = few.few in omega arith;
   each = λ k d l. All-map (IsDifferenceSystem (size.columns - length cols) (size.bits + length cols)) (system_of left.columns left.definitions) lists
       (λ i e m. record {
-        narrow = let n = (size_of_one size s of).narrow in let g = ap (λ (xs : List ℕ). length xs) (gone_plain s cols plain) in omega arith;
+        narrow = let n = of.rows.narrow in let g = ap (λ (xs : List ℕ). length xs) (gone_plain s cols plain) in omega arith;
         undefined = kept ∙ kept_plain s cols plain;
         normal = All-unmapped (λ t. IsNormal t.rows) (system_of left.columns left.definitions) lists (rw is at normal) i e m;
         rows = few.rows i e m;
@@ -100,17 +98,17 @@ size_dropped size s cols left lists systems of kept columns is normal few = rw i
 })
   where
     plain : s.definitions ≡ []
-    plain = (size_of_one size s of).undefined
+    plain = of.rows.undefined
 
 -- ---- one column of a system without definitions
 pub plain_free_columns : (s : System) → s.definitions ≡ [] → free_columns s ≡ s.columns
 plain_free_columns s e = let n = ap (λ (ds : List Definition). length ds) e in omega arith
 
-pub plain_differences : (g : Gauge) (s : System) (bits : ℕ) → IsSystemWithin g s → IsPlainDifference s bits
+pub plain_differences : (g : Gauge) (s : System) (bits : ℕ) → IsSystemWithin g s → IsPlainDifference s bits → IsNormal s.rows
     → AreDifferences g s.columns bits s.rows
-plain_differences g s bits w p = record {
+plain_differences g s bits w p n = record {
   proper = λ k d l. record { formed = w.rows k d l; within = w.within k d l };
-  normal = p.normal;
+  normal = n;
   differences = p.rows;
 }
 
@@ -121,13 +119,13 @@ few_option bits (Some rows) h = few_one bits rows h
 
 pub one_column_tame : {A : Type 0} (items : A → List (List Row)) (g h : Gauge) (bits columns col count : ℕ) (rows : List Row)
     (result : Result A Cut)
-    → col < columns → count ≡ 1 → g.bits ≡ 127 → bits + columns ≤ 120 → AreDifferences g columns bits rows
+    → col < columns → count ≡ 1 → g.bits ≡ 127 → bits + count ≤ 120 → AreDifferences g columns bits rows
     → IsTameColumn g h rows col result
     → (IsExactColumn col rows → ¬ HasEquality col rows → IfOk result (λ a. items a ≡ option_to_list (exact_rows rows col)))
     → (HasEquality col rows → IfOk result (λ a. items a ≡ option_to_list (solved_rows rows col)))
     → IsTame (count * (columns * columns)) g h (λ a. AreFewDifferences (bits + count) (items a)) result
 one_column_tame {A = A} items g h bits columns col count rows result inside one full room are p exact solved =
-    let column = column_tame g columns bits col rows inside are h result full room p in
+    let column = column_tame g columns bits col rows inside are h result full (omega (arith, room, one)) p in
     let units : count * (columns * columns) ≡ columns * columns = ap (λ n. n * (columns * columns)) one ∙ omega arith in
     record {
       within = answered_more (columns * columns) (count * (columns * columns)) g h result (omega arith) column.within;

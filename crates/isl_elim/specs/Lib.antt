@@ -2,10 +2,12 @@ pub mod Between
 pub mod Dependents
 pub mod Elimination
 pub mod Flatten
+pub mod Narrow
 pub mod Opened
 pub mod Others
 pub mod Sample
 pub mod Solved
+pub mod Spent
 pub mod Tame
 pub use Rattle.isl_shadows.specs.Column
 pub use Rattle.isl_shadows.specs.Exact

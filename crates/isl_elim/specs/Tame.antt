@@ -5,16 +5,14 @@ use Rattle.isl_meter.specs.declared.Cut.{Cut}
 use Rattle.isl_meter.specs.Gauge.{Gauge}
 use Rattle.isl_piece.specs.declared.row.Row.{Row}
 use Rattle.isl_piece.specs.declared.system.System.{System}
-use Rattle.isl_piece.specs.Normal.{IsNormal}
 use Rattle.isl_column.specs.Parts.{PartsView, IsHeadAlone}
 use Rattle.isl_ledger.specs.Answered.{IsTame}
 use Rattle.isl_ledger.specs.Difference.{IsDifferenceRow}
 
 -- ---- what is given
--- a system without definitions, of normal difference constraints with constants of so many bits
+-- a system without definitions, of difference constraints with constants of so many bits
 pub record IsPlainDifference (s : System) (bits : ℕ) : Type 0 where
   pub undefined : s.definitions ≡ []
-  pub normal : IsNormal s.rows
   pub rows : All (IsDifferenceRow bits) s.rows
 
 -- difference constraints are still to come, as a head alone, or nothing
@@ -40,7 +38,8 @@ abbrev pub AreNumbersLeft : ℕ → ℕ → List ℤ → Type 0
 AreNumbersLeft bits most xs = All (λ x. unsigned_abs x + 2 ^ bits ≤ 2 ^ most) xs
 
 -- ---- calls
--- where difference constraints are given over so many columns, and the bits of their constants leave room for one bit more with each column, at
--- 127 bits work ends within so many units, and an answer leaves what the bits tell
-pub record IsTameOn {A : Type 0} (columns : ℕ) (Given : ℕ → Type 0) (most : ℕ) (old new : Gauge) (Left : ℕ → A → Type 0) (result : Result A Cut) : Type 0 where
-  pub tame : (bits : ℕ) → old.bits ≡ 127 → bits + columns ≤ 120 → Given bits → IsTame most old new (Left bits) result
+-- where difference constraints are given, and the bits of their constants leave room for one bit more with each of so many columns that
+-- go, at 127 bits work ends within so many units, and an answer leaves what the bits tell
+pub record IsTameOn {A : Type 0} (gone : ℕ) (Given : ℕ → Type 0) (most : ℕ) (old new : Gauge) (Left : ℕ → A → Type 0)
+    (result : Result A Cut) : Type 0 where
+  pub tame : (bits : ℕ) → old.bits ≡ 127 → bits + gone ≤ 120 → Given bits → IsTame most old new (Left bits) result

@@ -8,6 +8,7 @@ ghost use Rattle.isl_omega.specs.Column.{IsProper};
 ghost use Rattle.isl_elim.specs.Elimination.{AddsAlong};
 ghost use Rattle.isl_simpler.specs.Emptiness.{HoldNowhere};
 ghost use Rattle.isl_simpler.specs.Fixed.{HoldAlike};
+ghost use Rattle.isl_elim.specs.Narrow.{IsNarrow};
 ghost use Rattle.isl_elim.specs.Others.{others_of};
 ghost use Rattle.isl_elim.specs.Solved.{IsGivenBy};
 ghost use Rattle.isl_elim.specs.Tame.{AreFewDifferences, AddsFewDifferences, IsDifferenceHead, IsTameOn};
@@ -15,6 +16,7 @@ ghost use Rattle.isl_column.specs.Parts.{AreParts, HoldsPart, head_count};
 ghost use Rattle.isl_ledger.specs.Difference.{IsDifferenceRow};
 
 use crate::emptiness::hold_nowhere;
+use crate::narrow::{Narrow, narrow_among, without_narrow};
 use crate::solved::{substituted, unit_at};
 use isl_column::{Parts, push_list};
 use isl_meter::{Cut, Meter};
@@ -57,7 +59,7 @@ fn simpler(
     requires normal { IsNormal rows }
     ensures exact { IsDone meter.old meter.new
         (λ found. MatchOption found (HoldNowhere columns rows) (HoldAlike meter.old columns rows)) result }
-    ensures tame { IsTameOn columns (λ bits. All (IsDifferenceRow bits) rows) 0 meter.old meter.new
+    ensures tame { IsTameOn (length cols.now) (λ bits. All (IsDifferenceRow bits) rows) 0 meter.old meter.new
         (λ bits found. IfSome found (All (IsDifferenceRow bits))) result }
 {
     let Some(fixed) = with_fixed(alloc, rows, columns, meter)? else {
@@ -70,7 +72,7 @@ fn simpler(
     Ok(few)
 }
 
-// Pushes what is left of the rows without the columns.
+// Pushes what is left of the rows without the columns: first without those between two opposite bounds.
 #[cycle(eliminate_all)]
 #[tactic(auto, using(crate::proofs::AlongLaws::along_steps))]
 fn push_without(
@@ -89,8 +91,68 @@ fn push_without(
         (λ _. AddsAlong meter.old columns cols.now (HoldRows rows) lists.old.items lists.new.items × IsCharged meter.old meter.new)
         (IsCutBy meter.old meter.new) }
     ensures counted { IfOk result (λ _. meter.old.units + length lists.new.items ≤ meter.new.units + (length lists.old.items + 1)) }
-    ensures tame { IsTameOn columns (λ bits. All (IsDifferenceRow bits) rows) (length cols.now * (columns * columns)) meter.old meter.new
-        (λ bits _. AddsFewDifferences (bits + length cols.now) lists.old.items lists.new.items) result }
+    ensures tame { IsTameOn (length cols.now) (λ bits. All (IsDifferenceRow bits) rows) (length cols.now * (columns * columns))
+        meter.old meter.new (λ bits _. AddsFewDifferences (bits + length cols.now) lists.old.items lists.new.items) result }
+{
+    match narrow_among(rows.as_slice(), cols, meter) {
+        Some(narrow) => push_narrow(alloc, rows, narrow, columns, cols, lists, meter),
+        None => push_by_parts(alloc, rows, columns, cols, lists, meter),
+    }
+}
+
+// The same, where a column lies between two opposite bounds: that column goes first, and leaves one list of rows at most.
+#[cycle(eliminate_all)]
+#[tactic(auto, using(crate::proofs::AlongLaws::along_steps))]
+fn push_narrow(
+    alloc: Global,
+    rows: Rows,
+    narrow: Narrow,
+    columns: usize,
+    cols: &[usize],
+    lists: &mut Vec<Rows>,
+    meter: &mut Meter,
+) -> Result<(), Cut>
+    requires rows { All (IsProper meter.old columns) rows }
+    requires narrow { IsNarrow rows cols.now narrow }
+    requires distinct { AllPairs (λ a b. a ≢ b) cols.now }
+    requires cols_in { All (λ col. col < columns) cols.now }
+    ensures exact { MatchResult result
+        (λ _. AddsAlong meter.old columns cols.now (HoldRows rows) lists.old.items lists.new.items × IsCharged meter.old meter.new)
+        (IsCutBy meter.old meter.new) }
+    ensures counted { IfOk result (λ _. meter.old.units + length lists.new.items ≤ meter.new.units + (length lists.old.items + 1)) }
+{
+    let left = others(alloc, cols, narrow.col)?;
+    let column = Column {
+        columns,
+        at: narrow.col,
+    };
+    match without_narrow(alloc, rows, narrow, column, meter)? {
+        None => Ok(()),
+        Some(short) => push_without(alloc, short, columns - 1, left.as_slice(), lists, meter),
+    }
+}
+
+// The same, one column after another, each by the parts that are left without it.
+#[cycle(eliminate_all)]
+#[tactic(auto, using(crate::proofs::AlongLaws::along_steps))]
+fn push_by_parts(
+    alloc: Global,
+    rows: Rows,
+    columns: usize,
+    cols: &[usize],
+    lists: &mut Vec<Rows>,
+    meter: &mut Meter,
+) -> Result<(), Cut>
+    requires rows { All (IsProper meter.old columns) rows }
+    requires normal { IsNormal rows }
+    requires distinct { AllPairs (λ a b. a ≢ b) cols.now }
+    requires cols_in { All (λ col. col < columns) cols.now }
+    ensures exact { MatchResult result
+        (λ _. AddsAlong meter.old columns cols.now (HoldRows rows) lists.old.items lists.new.items × IsCharged meter.old meter.new)
+        (IsCutBy meter.old meter.new) }
+    ensures counted { IfOk result (λ _. meter.old.units + length lists.new.items ≤ meter.new.units + (length lists.old.items + 1)) }
+    ensures tame { IsTameOn (length cols.now) (λ bits. All (IsDifferenceRow bits) rows) (length cols.now * (columns * columns))
+        meter.old meter.new (λ bits _. AddsFewDifferences (bits + length cols.now) lists.old.items lists.new.items) result }
 {
     if cols.is_empty() {
         push_list(lists, rows, columns)?;
@@ -126,8 +188,8 @@ fn push_some(
         (λ _. AddsAlong meter.old columns cols.now (HoldRows rows) lists.old.items lists.new.items × IsCharged meter.old meter.new)
         (IsCutBy meter.old meter.new) }
     ensures counted { IfOk result (λ _. meter.old.units + length lists.new.items ≤ meter.new.units + (length lists.old.items + 1)) }
-    ensures tame { test ≡ false → IsTameOn columns (λ bits. All (IsDifferenceRow bits) rows) (length cols.now * (columns * columns)) meter.old meter.new
-        (λ bits _. AddsFewDifferences (bits + length cols.now) lists.old.items lists.new.items) result }
+    ensures tame { test ≡ false → IsTameOn (length cols.now) (λ bits. All (IsDifferenceRow bits) rows) (length cols.now * (columns * columns))
+        meter.old meter.new (λ bits _. AddsFewDifferences (bits + length cols.now) lists.old.items lists.new.items) result }
 {
     if !test {
         return push_without(alloc, rows, columns, cols, lists, meter);
@@ -156,7 +218,7 @@ fn push_parts(
         (λ _. AddsAlong meter.old columns cols.now (HoldsPart parts) lists.old.items lists.new.items × IsCharged meter.old meter.new)
         (IsCutBy meter.old meter.new) }
     ensures counted { IfOk result (λ _. meter.old.units + length lists.new.items ≤ meter.new.units + (length lists.old.items + head_count parts)) }
-    ensures tame { IsTameOn columns (IsDifferenceHead parts) (length cols.now * (columns * columns)) meter.old meter.new
+    ensures tame { IsTameOn (length cols.now) (IsDifferenceHead parts) (length cols.now * (columns * columns)) meter.old meter.new
         (λ bits _. AddsFewDifferences (bits + length cols.now) lists.old.items lists.new.items) result }
 {
     let mut taken: usize = 0;
@@ -183,8 +245,8 @@ fn normal_without(
         (λ lists. AddsAlong meter.old columns cols.now (HoldRows rows) [] lists.items × IsCharged meter.old meter.new)
         (IsCutBy meter.old meter.new) }
     ensures counted { IfOk result (λ lists. meter.old.units + length lists.items ≤ meter.new.units + 1) }
-    ensures tame { IsTameOn columns (λ bits. All (IsDifferenceRow bits) rows) (length cols.now * (columns * columns)) meter.old meter.new
-        (λ bits lists. AreFewDifferences (bits + length cols.now) lists.items) result }
+    ensures tame { IsTameOn (length cols.now) (λ bits. All (IsDifferenceRow bits) rows) (length cols.now * (columns * columns))
+        meter.old meter.new (λ bits lists. AreFewDifferences (bits + length cols.now) lists.items) result }
 {
     match rows.normalise(alloc, meter)? {
         None => Ok(Vec::new(alloc)),
@@ -232,8 +294,8 @@ pub(crate) fn rows_without(
         (λ lists. AddsAlong meter.old columns cols.now (HoldRows rows) [] lists.items × IsCharged meter.old meter.new)
         (IsCutBy meter.old meter.new) }
     ensures counted { IfOk result (λ lists. meter.old.units + length lists.items ≤ meter.new.units + 1) }
-    ensures tame { IsTameOn columns (λ bits. All (IsDifferenceRow bits) rows) (length cols.now * (columns * columns)) meter.old meter.new
-        (λ bits lists. AreFewDifferences (bits + length cols.now) lists.items) result }
+    ensures tame { IsTameOn (length cols.now) (λ bits. All (IsDifferenceRow bits) rows) (length cols.now * (columns * columns))
+        meter.old meter.new (λ bits lists. AreFewDifferences (bits + length cols.now) lists.items) result }
 {
     let Some(given) = given_column(rows.as_slice(), cols) else {
         return normal_without(alloc, rows, columns, cols, meter);

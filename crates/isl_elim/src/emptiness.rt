@@ -12,11 +12,12 @@ ghost use Rattle.isl_simpler.specs.Shear.{IsReduction};
 ghost use Rattle.isl_redundant.specs.Redundant.{IsReduced};
 ghost use Rattle.isl_piece.specs.System.{HoldRows, HoldsSystem, IsSystemWithin, free_columns};
 ghost use Rattle.isl_elim.specs.Sample.{IsNowhere};
+ghost use Rattle.isl_elim.specs.Spent.{IsSpentOn};
 ghost use Rattle.isl_elim.specs.Tame.{IsTameOn};
 ghost use Rattle.isl_column.specs.Parts.{AreParts, AreNone, IsHeadAlone};
 ghost use Rattle.isl_ledger.specs.Answered.{IsTame};
 ghost use Rattle.isl_ledger.specs.Difference.{IsDifferenceRow};
-ghost use Rattle.isl_ledger.specs.Work.{Size, AreOfSize};
+ghost use Rattle.isl_ledger.specs.Work.{Size, HasSize};
 
 use crate::opened::opened;
 use isl_column::{Parts, real_shadow};
@@ -236,8 +237,9 @@ fn are_empty(
 /// # Errors
 ///
 /// `Overflow` where a number passes the limit of the meter, `Budget` where its units are used up, and `NoMemory`. With one
-/// column a limit of 127 bits is not passed where the numbers are at most `2^30` and at most one congruence has it. Of difference constraints
-/// over c columns no error but `NoMemory` comes where 127 bits have room for one bit more with each column, and `c^3` units are left.
+/// column a limit of 127 bits is not passed where the numbers are at most `2^30` and at most one congruence has it. Of difference
+/// constraints over c columns, which are normal where c is 1, no error but `NoMemory` comes where 127 bits have room for one bit more
+/// with each column, and `c^3` units are left.
 #[tactic(auto, using(crate::proofs::OpenedLaws::opened_steps))]
 pub fn is_empty(alloc: Global, system: &System, meter: &mut Meter) -> Result<bool, Cut>
     requires well_formed { IsSystemWithin meter.old system.now }
@@ -246,7 +248,8 @@ pub fn is_empty(alloc: Global, system: &System, meter: &mut Meter) -> Result<boo
     ensures units { system.now.definitions ≡ [] → system.now.columns ≡ 1 → pos meter.new.units ≤ℤ (pos meter.old.units +ℤ elimination_units system.now.rows 0) }
     ensures equality { system.now.definitions ≡ [] → system.now.columns ≡ 1 → HasEquality 0 system.now.rows → meter.new.units ≡ meter.old.units }
     ensures magnitude { system.now.definitions ≡ [] → system.now.columns ≡ 1 → IsSpared meter.old system.now.rows 0 result }
-    ensures tame { (size : Size) → meter.old.bits ≡ 127 → size.bits + size.columns ≤ 120 → AreOfSize size (system.now ∷ [])
+    ensures tame { (size : Size) → meter.old.bits ≡ 127 → size.bits + size.columns ≤ 120 → HasSize size system.now
+        → (system.now.columns ≡ 1 → IsNormal system.now.rows)
         → IsTame (size.columns * (size.columns * size.columns)) meter.old meter.new (λ _. Unit {0}) result }
 {
     if system.columns == 1 && system.definitions.is_empty() {
@@ -262,15 +265,16 @@ pub fn is_empty(alloc: Global, system: &System, meter: &mut Meter) -> Result<boo
 ///
 /// # Errors
 ///
-/// `Overflow` where a number passes the limit of the meter, `Budget` where its units are used up, and `NoMemory`. Of difference constraints
-/// `is_empty` tells.
+/// `Overflow` where a number passes the limit of the meter, `Budget` where its units are used up, and `NoMemory`. Of one column, and of
+/// difference constraints, `is_empty` tells.
 #[tactic(auto, using(crate::proofs::OpenedLaws::opened_steps))]
 pub fn is_normal_empty(alloc: Global, system: &System, meter: &mut Meter) -> Result<bool, Cut>
     requires well_formed { IsSystemWithin meter.old system.now }
     requires normal { IsNormal system.now.rows }
     ensures exact { IfOk result (λ empty. IsTrue empty ↔ IsNowhere (free_columns system.now) (HoldsSystem system.now)) }
     ensures meter { IsMetered meter.old meter.new result }
-    ensures tame { (size : Size) → meter.old.bits ≡ 127 → size.bits + size.columns ≤ 120 → AreOfSize size (system.now ∷ [])
+    ensures one { system.now.definitions ≡ [] → system.now.columns ≡ 1 → IsSpentOn system.now.rows 0 meter.old meter.new result }
+    ensures tame { (size : Size) → meter.old.bits ≡ 127 → size.bits + size.columns ≤ 120 → HasSize size system.now
         → IsTame (size.columns * (size.columns * size.columns)) meter.old meter.new (λ _. Unit {0}) result }
 {
     if system.columns == 1 || !system.definitions.is_empty() {

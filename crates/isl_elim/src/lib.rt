@@ -8,6 +8,7 @@ mod dependents;
 mod emptiness;
 mod flat;
 mod line;
+mod narrow;
 mod opened;
 mod progression;
 mod projection;

@@ -113,7 +113,8 @@ pub(crate) fn opened_rows(
 ) -> Result<Rows, Cut>
     requires well_formed { IsSystemWithin meter.old system.now }
     ensures exact { IsDone meter.old meter.new (λ rows. (rows ≡ opened_rows system.now cols.now) × All (IsProper meter.old system.now.columns) rows) result }
-    ensures tame { IsTameOn system.now.columns (IsPlainDifference system.now) 0 meter.old meter.new (λ bits rows. All (IsDifferenceRow bits) rows) result }
+    ensures tame { IsTameOn (length cols.now) (IsPlainDifference system.now) 0 meter.old meter.new
+        (λ bits rows. All (IsDifferenceRow bits) rows) result }
 {
     let definitions = system.definitions.as_slice();
     let mut rows = system.rows.copy(alloc)?;

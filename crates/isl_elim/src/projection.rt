@@ -15,7 +15,7 @@ ghost use Rattle.isl_elim.specs.Opened.{opened_rows};
 ghost use Rattle.isl_elim.specs.Sample.{IsNowhere};
 ghost use Rattle.isl_elim.specs.Tame.{AreFewDifferences, IsPlainDifference, IsTameOn};
 ghost use Rattle.isl_ledger.specs.Answered.{IsTame};
-ghost use Rattle.isl_ledger.specs.Work.{Size, AreOfSize, drop_size};
+ghost use Rattle.isl_ledger.specs.Work.{Size, AreOfSize, HasSize, drop_size};
 
 use crate::along::rows_without;
 use crate::dependents::{columns_left, with_dependents};
@@ -66,7 +66,8 @@ fn lists_left(
     ensures magnitude { (col : ℕ) → gone.now ≡ col ∷ [] → col < free_columns system.now → meter.old.bits ≡ 127 → HaveSmallNumbers system.now.rows
         → HaveOneCongruence system.now.rows col → result ≢ Err Cut.Overflow }
     ensures counted { IfOk result (λ lists. meter.old.units + length lists.items ≤ meter.new.units + 1) }
-    ensures tame { IsTameOn system.now.columns (IsPlainDifference system.now) (length gone.now * (system.now.columns * system.now.columns))
+    ensures tame { (length gone.now ≡ 1 → IsNormal system.now.rows)
+        → IsTameOn (length gone.now) (IsPlainDifference system.now) (length gone.now * (system.now.columns * system.now.columns))
         meter.old meter.new (λ bits lists. AreFewDifferences (bits + length gone.now) lists.items) result }
 {
     if gone.len() == 1 && gone[0] < system.free() {
@@ -93,8 +94,8 @@ fn lists_left(
 /// definition depends on `col`, a limit of 127 bits is not passed where the numbers of the rows are at most `2^30` and at most
 /// one congruence has the column.
 ///
-/// Of difference constraints over c columns at most one system is left, again of such. Where 127 bits have room for one bit more with each
-/// column, and `c^2` units are left, no error but `NoMemory` comes.
+/// Of difference constraints over c columns at most one system is left, again of such. Where 127 bits have room for one bit more, and `c^2`
+/// units are left, no error but `NoMemory` comes.
 #[tactic(auto, using(crate::proofs::ProjectionLaws::projection_steps))]
 pub fn eliminate(
     alloc: Global,
@@ -118,7 +119,7 @@ pub fn eliminate(
     ensures magnitude { dependents system.now (col ∷ []) ≡ [] → meter.old.bits ≡ 127 → HaveSmallNumbers system.now.rows → HaveOneCongruence system.now.rows col
         → result ≢ Err Cut.Overflow }
     ensures counted { IfOk result (λ systems. meter.old.units + length systems.items ≤ meter.new.units + 1) }
-    ensures tame { (size : Size) → meter.old.bits ≡ 127 → size.bits + size.columns ≤ 120 → AreOfSize size (system.now ∷ [])
+    ensures tame { (size : Size) → meter.old.bits ≡ 127 → size.bits + 1 ≤ 120 → AreOfSize size (system.now ∷ [])
         → IsTame (size.columns * size.columns) meter.old meter.new (λ systems. AreOfSize (drop_size 1 size) systems.items) result }
 {
     eliminate_all(alloc, system, &[col], meter)
@@ -131,7 +132,8 @@ pub fn eliminate(
 /// # Errors
 ///
 /// `Overflow` where a number passes the limit of the meter, `Budget` where its units are used up, and `NoMemory`. Of difference constraints
-/// `eliminate` tells, where so many units are left for each column that goes.
+/// `eliminate` tells, where there is room for a bit, and so many units are left, for each column that goes; the rows of a single column are
+/// to be normal then.
 #[tactic(auto, using(crate::proofs::ProjectionLaws::projection_steps))]
 pub fn eliminate_all(
     alloc: Global,
@@ -156,8 +158,10 @@ pub fn eliminate_all(
     ensures magnitude { (col : ℕ) → cols.now ≡ col ∷ [] → dependents system.now cols.now ≡ [] → meter.old.bits ≡ 127 → HaveSmallNumbers system.now.rows
         → HaveOneCongruence system.now.rows col → result ≢ Err Cut.Overflow }
     ensures counted { IfOk result (λ systems. meter.old.units + length systems.items ≤ meter.new.units + 1) }
-    ensures tame { (size : Size) → meter.old.bits ≡ 127 → size.bits + size.columns ≤ 120 → AreOfSize size (system.now ∷ [])
-        → IsTame (length cols.now * (size.columns * size.columns)) meter.old meter.new (λ systems. AreOfSize (drop_size (length cols.now) size) systems.items) result }
+    ensures tame { (size : Size) → meter.old.bits ≡ 127 → size.bits + length cols.now ≤ 120 → HasSize size system.now
+        → (length cols.now ≡ 1 → IsNormal system.now.rows)
+        → IsTame (length cols.now * (size.columns * size.columns)) meter.old meter.new
+        (λ systems. AreOfSize (drop_size (length cols.now) size) systems.items) result }
 {
     let gone = with_dependents(alloc, system, cols)?;
     let left = columns_left(alloc, system, cols, gone.as_slice(), meter)?;

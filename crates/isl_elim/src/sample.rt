@@ -12,7 +12,7 @@ ghost use Rattle.isl_elim.specs.Sample.{IsSample, IsNowhere};
 ghost use Rattle.isl_elim.specs.Tame.{AreNumbersLeft, IsDifferenceHead, IsTameOn};
 ghost use Rattle.isl_ledger.specs.Answered.{IsTame};
 ghost use Rattle.isl_ledger.specs.Difference.{IsDifferenceRow};
-ghost use Rattle.isl_ledger.specs.Work.{Size, AreOfSize};
+ghost use Rattle.isl_ledger.specs.Work.{Size, HasSize};
 
 use crate::between::number_between;
 use crate::line::tries_at;
@@ -180,7 +180,7 @@ pub fn sample_point(
         (IsNowhere (free_columns system.now) (HoldsSystem system.now))
         (λ point. IsSample meter.old (free_columns system.now) (HoldsSystem system.now) point.items)) }
     ensures meter { IsMetered meter.old meter.new result }
-    ensures tame { (size : Size) → meter.old.bits ≡ 127 → size.bits + size.columns ≤ 119 → AreOfSize size (system.now ∷ [])
+    ensures tame { (size : Size) → meter.old.bits ≡ 127 → size.bits + size.columns ≤ 119 → HasSize size system.now
         → IsTame (size.columns * (size.columns * size.columns)) meter.old meter.new (λ _. Unit {0}) result }
 {
     let Some(rows) = opened(alloc, system, meter)? else {

@@ -97,7 +97,7 @@ pub(crate) fn substituted(
     requires inside { at < length rows }
     requires unit { (d : Row) → IsUnitEquality column.at (slice_index_or rows at d) }
     ensures exact { IsDone meter.old meter.new (IsSubstituted meter.old column.columns column.at rows) result }
-    ensures tame { IsTameOn column.columns (λ bits. All (IsDifferenceRow bits) rows) 0 meter.old meter.new
+    ensures tame { IsTameOn 1 (λ bits. All (IsDifferenceRow bits) rows) 0 meter.old meter.new
         (λ bits short. All (IsDifferenceRow (bits + 1)) short) result }
 {
     let mut short = Vec::from(rows);

@@ -9,3 +9,4 @@ pub mod WorkLaws
 pub mod CountLaws
 pub mod NormalCounts
 pub mod SizeLaws
+pub mod TurnLaws

@@ -1,10 +1,20 @@
 -- Systems of difference constraints that are counted: more room, and two lists of them.
-use Rattle.std.proofs.Common.{arith, ℕ, ◌+◌, ◌≤◌, List, ◌++◌, length-append}
-use Rattle.std.proofs.lemmas.List.Elements.{All-append, All-weaker}
+use Rattle.std.proofs.Common.{arith, ℕ, ◌+◌, ◌≤◌, List, [], ◌∷◌, ◌++◌, length-append}
+use Rattle.std.proofs.lemmas.List.Elements.{All-append, All-head, All-weaker}
 use Rattle.isl_piece.specs.declared.system.System.{System}
-use Rattle.isl_ledger.specs.Difference.{IsDifferenceRow, IsDifferenceSystem}
-use Rattle.isl_ledger.specs.Work.{Size, AreOfSize}
+use Rattle.isl_ledger.specs.Difference.{HasDifferenceRows, IsDifferenceRow, IsDifferenceSystem}
+use Rattle.isl_ledger.specs.Work.{Size, AreOfSize, HasSize}
 use Rattle.isl_ledger.proofs.NormalDifferences.{difference_wider}
+
+-- normal rows among all
+pub differences_of : (columns bits : ℕ) (s : System) → IsDifferenceSystem columns bits s → HasDifferenceRows columns bits s
+differences_of columns bits s d = record { narrow = d.narrow; undefined = d.undefined; rows = d.rows }
+
+pub one_system : (size : Size) (s : System) → AreOfSize size (s ∷ []) → IsDifferenceSystem size.columns size.bits s
+one_system size s h = All-head (IsDifferenceSystem size.columns size.bits) s [] h.each
+
+pub has_size : (size : Size) (s : System) → AreOfSize size (s ∷ []) → HasSize size s
+has_size size s h = record { some = h.few; rows = differences_of size.columns size.bits s (one_system size s h) }
 
 -- at most as many columns and bits
 pub system_wider : (columns more bits longer : ℕ) (s : System) → columns ≤ more → bits ≤ longer → IsDifferenceSystem columns bits s

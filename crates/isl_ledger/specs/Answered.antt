@@ -1,7 +1,7 @@
 -- public: calls whose errors are refusals of a meter, as results that may be cut; and what calls leave on systems whose work is bounded.
-use Rattle.std.specs.Prelude.{ℕ, Result, Ok, Err, IfOk}
+use Rattle.std.specs.Prelude.{ℕ, ◌+◌, ◌*◌, ◌≤◌, Result, Ok, Err, IfOk}
 use Rattle.isl_meter.specs.declared.Cut.{Cut}
-use Rattle.isl_meter.specs.Gauge.{Gauge, IsAnsweredWithin}
+use Rattle.isl_meter.specs.Gauge.{Gauge, IsAnsweredWithin, IsCharged}
 use Rattle.isl_piece.specs.Cut.{IsNoOverflow}
 
 -- the result with the cut in the place of an error, as `?` answers it
@@ -14,3 +14,9 @@ pub record IsTame {A : Type 0} (most : ℕ) (old new : Gauge) (P : A → Type 0)
   pub within : IsAnsweredWithin most old new result
   pub numbers : IsNoOverflow result
   pub answer : IfOk result P
+
+-- so many turns of a loop, of so many units each, and P holds of what they made
+pub record IsTameSoFar (turns each : ℕ) (old now : Gauge) (P : Type 0) : Type 0 where
+  pub charged : IsCharged old now
+  pub units : now.units ≤ old.units + turns * each
+  pub holds : P

@@ -34,7 +34,13 @@ pub record IsDifferenceRow (bits : ℕ) (r : Row) : Type 0 where
   pub compares : IsComparison r.coefs first second
   pub constant : unsigned_abs r.constant < 2 ^ bits
 
--- a system over at most so many columns, of which none is defined, with normal rows that are difference constraints
+-- a system over at most so many columns, of which none is defined, with rows that are difference constraints, normal or not
+pub record HasDifferenceRows (columns bits : ℕ) (s : System) : Type 0 where
+  pub narrow : s.columns ≤ columns
+  pub undefined : s.definitions ≡ []
+  pub rows : All (IsDifferenceRow bits) s.rows
+
+-- the same with normal rows
 pub record IsDifferenceSystem (columns bits : ℕ) (s : System) : Type 0 where
   pub narrow : s.columns ≤ columns
   pub undefined : s.definitions ≡ []

@@ -2,7 +2,7 @@
 -- constant.
 use Rattle.std.specs.Prelude.{◌≤◌, ℕ, ◌+◌, ◌*◌, ◌-◌, List, All, length}
 use Rattle.isl_piece.specs.declared.system.System.{System}
-use Rattle.isl_ledger.specs.Difference.{IsDifferenceSystem}
+use Rattle.isl_ledger.specs.Difference.{HasDifferenceRows, IsDifferenceSystem}
 
 pub record Size : Type 0 where
   pub pieces : ℕ
@@ -13,6 +13,11 @@ pub record Size : Type 0 where
 pub record AreOfSize (size : Size) (systems : List System) : Type 0 where
   pub few : length systems ≤ size.pieces
   pub each : All (IsDifferenceSystem size.columns size.bits) systems
+
+-- a system that the size has room for, with rows that are normal or not
+pub record HasSize (size : Size) (s : System) : Type 0 where
+  pub some : 1 ≤ size.pieces
+  pub rows : HasDifferenceRows size.columns size.bits s
 
 -- how many forms a column less another one has, or a column, or its negative
 abbrev pub form_limit : ℕ → ℕ

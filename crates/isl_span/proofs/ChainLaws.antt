@@ -1,12 +1,12 @@
 -- Columns of systems one after another, and the rows of the hull of what is left.
-use Rattle.std.proofs.Common.{◌≡◌, ◌⊎◌, ◌∙◌, inl, inr, refl, sym, ap, subst, arith, ℕ, suc, ◌+◌, ◌-◌, ◌<◌, ◌≤◌, ℤ, pos}
+use Rattle.std.proofs.Common.{◌≡◌, ◌∙◌, refl, sym, ap, subst, arith, ℕ, ◌+◌, ℤ, pos}
 use Rattle.std.proofs.Common.{List, [], ◌∷◌, ◌++◌, length, map, get_or, true, false}
-use Rattle.std.specs.List.{All, Any, insert, remove}
+use Rattle.std.specs.List.{All, insert, remove}
 use Rattle.std.proofs.lemmas.Bool.{false≢true, true≢false}
 use Rattle.std.proofs.lemmas.List.{append_assoc}
 use Rattle.std.proofs.lemmas.List.Edits.{length-insert, length-remove}
 use Rattle.std.proofs.lemmas.List.Elements.{All-head, All-weaker}
-use Rattle.isl_math.proofs.ListLaws.{Any-first, Any-none, Any-one}
+use Rattle.isl_math.proofs.ListLaws.{Any-first, Any-one}
 use Rattle.isl_meter.specs.Gauge.{Gauge}
 use Rattle.isl_piece.specs.declared.row.Row.{Row}
 use Rattle.isl_piece.specs.declared.system.System.{System}
@@ -18,7 +18,6 @@ use Rattle.isl_elim.proofs.EmptinessLaws.{insert-remove}
 use Rattle.isl_span.specs.declared.link.Link.{Link}
 use Rattle.isl_span.specs.declared.link.Link.TheVariants.{Equation, Free, Unknown}
 use Rattle.isl_span.specs.Chain.{AreHullRows, IsChainOf, IsFreeAtLast, IsLastEquation, IsLinkOf, IsPushed, padded}
-use Rattle.isl_span.specs.Forms.{IsForm}
 use Rattle.isl_span.specs.Points.{IsOver, IsPoint}
 use Rattle.isl_span.proofs.CallLaws.{alone_at}
 use Rattle.isl_span.proofs.FormLaws.{form_later, forms_later}
@@ -158,3 +157,6 @@ hull_rows_kept g h n P rows same are = record {
   some = are.some;
   exact = are.exact;
 }
+
+pub one_over : (g : Gauge) (n : ℕ) (left : List System) (s : System) → left ≡ s ∷ [] → All (IsOver g n) left → IsOver g n s
+one_over g n left s is all = All-head (IsOver g n) s [] (subst (All (IsOver g n)) is all)

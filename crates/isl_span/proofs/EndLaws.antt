@@ -1,6 +1,6 @@
 -- What is left when all forms were asked for.
-use Rattle.std.proofs.Common.{◌≡◌, ◌≢◌, ◌↔◌, ◌∙◌, inl, inr, refl, sym, ap, subst, ℕ, zero, suc, ◌+◌, ◌<◌, arith, ℤ, pos, ◌+ℤ◌, true, false}
-use Rattle.std.proofs.Common.{List, [], ◌∷◌, ◌++◌, length, get_or, take, drop}
+use Rattle.std.proofs.Common.{◌≡◌, ◌↔◌, ◌∙◌, inl, inr, refl, sym, ap, subst, ℕ, zero, suc, ◌<◌, arith, ℤ, pos, ◌+ℤ◌, true, false}
+use Rattle.std.proofs.Common.{List, [], ◌∷◌, ◌++◌, length, length-append, get_or, take, drop}
 use Rattle.std.specs.List.{All}
 use Rattle.std.proofs.lemmas.Bool.{false_from_ne_true}
 use Rattle.std.proofs.lemmas.List.{append_assoc, map-append}
@@ -145,3 +145,19 @@ pub forms_before : (g h : Gauge) (n m : ℕ) (systems : List System) (rows : Lis
     → AreFormsFor h m (IsPoint m systems) 0 rows → AreFormsFor g n (IsPoint n systems) 0 rows
 forms_before g h n m systems rows same wide all =
     later h g n (IsPoint n systems) 0 rows (sym same) (subst (λ k. AreFormsFor h k (IsPoint k systems) 0 rows) wide all)
+
+-- ---- no columns
+pub empty_hull : (g : Gauge) (n : ℕ) (P : List ℤ → Type 0) → n ≡ 0 → (p : List ℤ) → length p ≡ n → P p → AreHullRows g n P []
+empty_hull g n P none p long here = record {
+  forms = All-nil (IsForm g n);
+  independent = λ before r behind is. absurd (let l = ap length is in let m = length-append before (r ∷ behind) in omega (arith, l, m));
+  some = λ never. never p here;
+  exact = λ x. (
+    (λ holds cs k v. by cs k x (v.long ∙ none) (v.zero p here)),
+    (λ zeros. All-nil (λ o. HoldsRow o x)),
+  );
+}
+  where
+    by : (cs : List ℤ) (k : ℤ) (x : List ℤ) → length cs ≡ 0 → dot cs p +ℤ k ≡ pos 0 → dot cs x +ℤ k ≡ pos 0
+    by [] k x e z = z
+    by (c ∷ cs) k x e z = absurd (omega (arith, e))

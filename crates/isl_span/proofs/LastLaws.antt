@@ -1,20 +1,19 @@
 -- What the last column adds to an affine hull: nothing where two points differ there alone, and else an equation with a unit there.
-use Rattle.std.proofs.Common.{◌≡◌, ◌≢◌, ◌⊎◌, ◌↔◌, ◌∙◌, inl, inr, refl, sym, ap, subst, arith, ℕ, zero, suc, ◌+◌, ◌-◌, ◌<◌, ◌≤◌}
+use Rattle.std.proofs.Common.{◌≡◌, ◌⊎◌, ◌↔◌, ◌∙◌, inl, inr, refl, sym, ap, subst, arith, ℕ, zero, suc, ◌+◌, ◌<◌, ◌≤◌}
 use Rattle.std.proofs.Common.{ℤ, pos, negsuc, neg_ℤ, ◌+ℤ◌, ◌-ℤ◌, ◌*ℤ◌, List, [], ◌∷◌, ◌++◌, length, length-append, map, get_or, set, take}
 use Rattle.std.specs.List.{All, insert, remove}
 use Rattle.std.proofs.lemmas.List.{length-take-le}
-use Rattle.std.proofs.lemmas.List.Edits.{get_or-insert_at, length-insert, length-remove}
-use Rattle.std.proofs.lemmas.List.Elements.{All-append, All-cons, All-head, All-nil, All-tail}
+use Rattle.std.proofs.lemmas.List.Edits.{get_or-insert_at, length-insert}
+use Rattle.std.proofs.lemmas.List.Elements.{All-append, All-cons, All-head, All-tail}
 use Rattle.isl_math.specs.Dot.{dot, weighted_sum}
 use Rattle.isl_math.proofs.ColumnLaws.{dot-weighted_sum, get_or-weighted_sum, length-weighted_sum}
-use Rattle.isl_math.proofs.DotLaws.{dot-nil_right, dot-set}
+use Rattle.isl_math.proofs.DotLaws.{dot-set}
 use Rattle.isl_math.proofs.ListLaws.{All-parts}
 use Rattle.isl_math.proofs.Ring.{expand, linear}
 use Rattle.isl_meter.specs.Gauge.{Gauge}
 use Rattle.isl_piece.specs.declared.row.Row.{Row}
-use Rattle.isl_piece.specs.declared.row.RowKind.TheVariants.{Zero}
 use Rattle.isl_piece.specs.Row.{HoldsRow, HoldsValue, coef_at, value_at}
-use Rattle.isl_piece.specs.System.{HoldRows, widened}
+use Rattle.isl_piece.specs.System.{HoldRows}
 use Rattle.isl_piece.proofs.ContentLaws.{zero_cases}
 use Rattle.isl_span.specs.Chain.{AreHullRows, IsFreeAtLast, IsLastEquation, IsUnit, padded}
 use Rattle.isl_span.specs.Forms.{IsForm}

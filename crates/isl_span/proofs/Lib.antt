@@ -6,9 +6,11 @@ pub mod StepLaws
 pub mod EndLaws
 pub mod PointLaws
 pub mod WiderLaws
+pub mod FewLaws
 pub mod LastLaws
 pub mod ChainLaws
 pub mod LinkLaws
 pub mod TightLaws
 pub mod SeenLaws
 pub mod CallLaws
+pub mod WorkLaws

@@ -1,9 +1,9 @@
 -- Rows as equations with a unit at the last column, and systems with points that differ there alone.
-use Rattle.std.proofs.Common.{◌≡◌, ◌≢◌, ◌⊎◌, ◌↔◌, ◌∙◌, inl, inr, refl, sym, ap, subst, arith, ℕ, ◌+◌, ◌-◌, ◌<◌, ◌≤◌, ◌^◌}
+use Rattle.std.proofs.Common.{◌≡◌, ◌≢◌, ◌⊎◌, ◌↔◌, ◌∙◌, inl, inr, refl, sym, ap, subst, arith, ℕ, ◌+◌, ◌-◌, ◌<◌, ◌^◌}
 use Rattle.std.proofs.Common.{suc, ℤ, pos, negsuc, neg_ℤ, unsigned_abs, ◌+ℤ◌, ◌-ℤ◌, ◌*ℤ◌, ◌≤ℤ◌, List}
-use Rattle.std.proofs.Common.{[], ◌∷◌, length, length-set, map, get_or, set, Option, Some, None, IfSome}
-use Rattle.std.specs.List.{All, Any}
-use Rattle.std.proofs.lemmas.List.Elements.{All-cons, All-head, All-map, All-nil}
+use Rattle.std.proofs.Common.{[], ◌∷◌, length, length-set, map, get_or, set}
+use Rattle.std.specs.List.{All}
+use Rattle.std.proofs.lemmas.List.Elements.{All-map}
 use Rattle.isl_math.specs.Dot.{dot}
 use Rattle.isl_math.specs.Divide.{Divides, floor_div}
 use Rattle.isl_math.specs.Gcd.{content}
@@ -13,7 +13,7 @@ use Rattle.isl_math.proofs.DotLaws.{dot-set}
 use Rattle.isl_math.proofs.GcdLaws.{IsContentOf-content}
 use Rattle.isl_math.proofs.ListLaws.{All-unmapped, Any-first, Any-one}
 use Rattle.isl_math.proofs.Ring.{expand, linear}
-use Rattle.isl_meter.specs.Gauge.{Gauge, IsWithin}
+use Rattle.isl_meter.specs.Gauge.{Gauge}
 use Rattle.isl_piece.specs.declared.definition.Definition.{Definition}
 use Rattle.isl_piece.specs.declared.row.Row.{Row}
 use Rattle.isl_piece.specs.declared.row.RowKind.{RowKind}
@@ -22,11 +22,11 @@ use Rattle.isl_piece.specs.declared.system.System.{System}
 use Rattle.isl_piece.specs.declared.reduction.Outcome.{Outcome}
 use Rattle.isl_piece.specs.declared.reduction.Outcome.TheVariants.{Holds, Fails, Stays}
 use Rattle.isl_piece.specs.Definition.{with_defined}
-use Rattle.isl_piece.specs.Normal.{Always, Kept, Never, Verdict, normal_form, normal_row, normal_zero, upright}
+use Rattle.isl_piece.specs.Normal.{Always, Kept, Never, Verdict, normal_row, upright}
 use Rattle.isl_piece.specs.Numbers.{divided, lead}
 use Rattle.isl_piece.specs.Outcome.{Settles}
 use Rattle.isl_piece.specs.Row.{HasModulus, HoldsRow, HoldsValue, IsRowUpTo, IsRowWithin, IsWellFormed, coef_at, value_at}
-use Rattle.isl_piece.specs.System.{HoldRows, HoldsSystem, IsSystemWithin, free_columns}
+use Rattle.isl_piece.specs.System.{HoldRows, HoldsSystem}
 use Rattle.isl_ledger.proofs.ComparisonLaws.{get_or-scaled}
 use Rattle.isl_piece.proofs.ContentLaws.{lead_not_zero, sign_squared, zero_cases}
 use Rattle.isl_piece.proofs.NormalCases.{normal_zero-kept, normal_zero_by}
@@ -35,12 +35,11 @@ use Rattle.isl_piece.proofs.PointLaws.{HoldsVerdict, normal_row_holds}
 use Rattle.isl_piece.proofs.RowMagnitudes.{up_to_limit, within_limit}
 use Rattle.isl_piece.proofs.SettledLaws.{normal_row_settled}
 use Rattle.isl_piece.proofs.ShapeLaws.{IfKept, normal_row_up_to, normal_row_well_formed}
-use Rattle.isl_elim.specs.Elimination.{HoldsAtAny}
 use Rattle.isl_elim.specs.Sample.{IsNowhere}
-use Rattle.isl_span.specs.Chain.{IsFreeAtLast, IsLastEquation, IsUnit, IsUnitForm, IsZeroOn}
+use Rattle.isl_span.specs.Chain.{IsFreeAtLast, IsUnit, IsUnitForm, IsZeroOn}
 use Rattle.isl_span.specs.Forms.{IsForm}
 use Rattle.isl_span.specs.Moved.{moved_row}
-use Rattle.isl_span.specs.Points.{IsOver, IsPoint}
+use Rattle.isl_span.specs.Points.{IsPoint}
 use Rattle.isl_span.proofs.EndLaws.{equation_holds}
 use Rattle.isl_span.proofs.LastLaws.{unit_cases}
 

@@ -1,8 +1,7 @@
 -- Of difference constraints with a point it is always seen what the last column adds.
-use Rattle.std.proofs.Common.{◌≡◌, ◌≢◌, ◌⊎◌, ◌↔◌, ◌∙◌, inl, inr, refl, sym, ap, subst, arith, ℕ, ◌+◌, ◌<◌, ◌≤◌}
-use Rattle.std.proofs.Common.{ℤ, pos, negsuc, ◌+ℤ◌, ◌≤ℤ◌, List, [], ◌∷◌, length, length-set, get_or, set, unsigned_abs}
+use Rattle.std.proofs.Common.{◌≡◌, ◌∙◌, inl, inr, sym, ap, subst, arith, ℕ, ◌+◌, ◌<◌}
+use Rattle.std.proofs.Common.{ℤ, pos, ◌+ℤ◌, List, [], ◌∷◌, length, length-set, get_or, set, unsigned_abs}
 use Rattle.std.specs.List.{All}
-use Rattle.isl_ledger.specs.Difference.{IsDifferenceRow}
 use Rattle.isl_ledger.proofs.ComparisonLaws.{coefficient_cases}
 use Rattle.isl_piece.specs.declared.definition.Definition.{Definition}
 use Rattle.isl_piece.specs.declared.row.Row.{Row}
@@ -10,9 +9,8 @@ use Rattle.isl_piece.specs.declared.row.RowKind.TheVariants.{Zero, AtLeast}
 use Rattle.isl_piece.specs.declared.system.System.{System}
 use Rattle.isl_piece.specs.Definition.{with_defined}
 use Rattle.isl_math.proofs.ListLaws.{Any-one}
-use Rattle.isl_piece.specs.Row.{HoldsRow, IsWellFormed, coef_at, value_at}
+use Rattle.isl_piece.specs.Row.{HoldsRow, IsWellFormed, coef_at}
 use Rattle.isl_piece.specs.System.{HoldRows, HoldsSystem}
-use Rattle.isl_elim.specs.Sample.{IsNowhere}
 use Rattle.isl_span.specs.Chain.{IsFreeAtLast, IsNoEquation, IsPlainChain, IsUnit, IsZeroOn}
 use Rattle.isl_span.specs.Points.{IsPoint}
 use Rattle.isl_span.proofs.EndLaws.{equation_holds}

@@ -3,12 +3,11 @@
 -- greater of two points at each column. (Miné, difference-bound matrices)
 use Rattle.std.proofs.Common.{◌≡◌, ◌⊎◌, ◌∙◌, inl, inr, refl, sym, ap, subst, arith, ℕ, zero, suc, ◌+◌, ◌<◌, ◌≤◌}
 use Rattle.std.proofs.Common.{ℤ, pos, negsuc, neg_ℤ, ◌+ℤ◌, ◌-ℤ◌, ◌*ℤ◌, ◌≤ℤ◌, ◌<ℤ◌}
-use Rattle.std.proofs.Common.{List, [], ◌∷◌, ◌++◌, length, map, get_or, set}
+use Rattle.std.proofs.Common.{List, [], ◌∷◌, length, map, get_or, set}
 use Rattle.std.specs.List.{All}
 use Rattle.std.proofs.lemmas.List.{get_or-map, get_or_default, get_or_past, length-map}
-use Rattle.std.proofs.lemmas.List.Elements.{All-append, All-cons, All-head, All-nil, All-tail}
 use Rattle.isl_math.specs.Dot.{dot}
-use Rattle.isl_math.proofs.DotLaws.{dot-nil_right, dot-set}
+use Rattle.isl_math.proofs.DotLaws.{dot-set}
 use Rattle.isl_math.proofs.OrderLaws.{at_most_or_above}
 use Rattle.isl_math.proofs.Ring.{expand, linear}
 use Rattle.isl_ledger.specs.Difference.{one_at, IsComparison, IsDifferenceRow}

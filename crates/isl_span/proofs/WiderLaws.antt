@@ -1,5 +1,5 @@
 -- Rows with the coefficient 0 at more columns: they hold at the same points, and equations stay normal.
-use Rattle.std.proofs.Common.{◌≡◌, ◌↔◌, ◌∙◌, refl, sym, ap, subst, arith, Bool, true, false, ℕ, zero, suc, ◌+◌, ◌-◌, ◌<◌, ◌≤◌}
+use Rattle.std.proofs.Common.{◌≡◌, ◌↔◌, ◌∙◌, refl, sym, ap, subst, arith, Bool, true, false, ℕ, zero, suc, ◌+◌, ◌-◌, ◌≤◌}
 use Rattle.std.proofs.Common.{ℤ, pos, negsuc, neg_ℤ, ◌+ℤ◌, ◌*ℤ◌, List, [], ◌∷◌, ◌++◌, length, length-append, map, get_or, replicate}
 use Rattle.std.specs.Prelude.{if◌then◌else◌}
 use Rattle.std.specs.List.{All}
@@ -20,7 +20,7 @@ use Rattle.isl_piece.specs.declared.row.RowKind.TheVariants.{Zero}
 use Rattle.isl_piece.specs.declared.row.Row.{Row}
 use Rattle.isl_piece.specs.Normal.{normal_form, normal_row, normal_zero, upright, Always, Kept, Never, Verdict}
 use Rattle.isl_piece.specs.Numbers.{divided, is_multiple, lead}
-use Rattle.isl_piece.specs.Row.{HoldsRow, HoldsValue, IsRowWithin, IsWellFormed, coef_at, value_at}
+use Rattle.isl_piece.specs.Row.{HoldsRow, HoldsValue, value_at}
 use Rattle.isl_piece.specs.System.{HoldRows, widened}
 use Rattle.isl_span.specs.Chain.{padded}
 use Rattle.isl_span.specs.Forms.{IsForm}

@@ -6,7 +6,7 @@ use Rattle.isl_meter.specs.Gauge.{Gauge}
 use Rattle.isl_piece.specs.declared.row.Row.{Row}
 use Rattle.isl_piece.specs.declared.row.RowKind.TheVariants.{Zero, AtLeast}
 use Rattle.isl_piece.specs.declared.system.System.{System}
-use Rattle.isl_piece.specs.Row.{HoldsRow, coef_at, value_at}
+use Rattle.isl_piece.specs.Row.{coef_at, value_at}
 use Rattle.isl_piece.specs.System.{HoldRows, HoldsSystem}
 use Rattle.isl_ledger.specs.Difference.{IsDifferenceSystem}
 use Rattle.isl_elim.specs.Elimination.{HoldsAtAny}

@@ -4,3 +4,4 @@ pub mod Independent
 pub mod Points
 pub mod Moved
 pub mod Chain
+pub mod Work

@@ -1,10 +1,12 @@
 //! Columns of systems one after another, from the last, as far as it is seen what each adds to the affine hull.
 
-ghost use Rattle.std.specs.Prelude.{◌≡◌, ◌-◌, ◌++◌, ◌∷◌, [], pos, ℕ, All, IfOk, OnOk, length, map, replicate};
+ghost use Rattle.std.specs.Prelude.{◌≡◌, ◌+◌, ◌-◌, ◌≤◌, ◌++◌, ◌∷◌, [], pos, ℕ, All, IfOk, OnOk, length, map, replicate};
 ghost use Rattle.isl_meter.specs.Gauge.{IsMetered};
 ghost use Rattle.isl_span.specs.Chain.{IsChainOf, IsPlainChain, IsPushed, padded};
 ghost use Rattle.isl_piece.specs.declared.system.System.{System};
+ghost use Rattle.isl_ledger.specs.Answered.{IsTame};
 ghost use Rattle.isl_span.specs.Points.{IsOver};
+ghost use Rattle.isl_span.specs.Work.{IsEnded, hull_units};
 
 use crate::last::link_of;
 use crate::link::Link;
@@ -84,6 +86,9 @@ pub(crate) fn chain_of(
     ensures far { IfOk result (λ chain. (bits : ℕ) (s : System) → chain.left.items ≡ s ∷ []
         → IsPlainChain chain.first bits s → chain.first ≡ 0) }
     ensures meter { IsMetered meter.old meter.new result }
+    ensures tame { (bits : ℕ) (s : System) → meter.old.bits ≡ 127 → bits + 1 + columns ≤ 120 → systems.items ≡ s ∷ []
+        → IsPlainChain columns bits s
+        → IsTame (hull_units columns) meter.old meter.new (λ chain. IsEnded (bits + columns) chain.first chain.left.items) result }
 {
     let mut rows = Rows::new(alloc);
     let mut first = columns;

@@ -1,13 +1,18 @@
 //! The affine hull of the points of systems.
 
-ghost use Rattle.std.specs.Prelude.{◌≡◌, ◌<◌, ◌+◌, All, IfOk, MatchOption, length};
+ghost use Rattle.std.specs.Prelude.{◌≡◌, ◌<◌, ◌≤◌, ◌+◌, ◌∷◌, [], ℕ, ⊤, All, IfOk, MatchOption, length};
 ghost use Rattle.isl_meter.specs.Gauge.{IsMetered};
+ghost use Rattle.isl_piece.specs.declared.system.System.{System};
+ghost use Rattle.isl_ledger.specs.Answered.{IsTame};
+ghost use Rattle.isl_ledger.specs.Work.{Size, AreOfSize};
 ghost use Rattle.isl_elim.specs.Elimination.{HoldsAtAny};
 ghost use Rattle.isl_elim.specs.Sample.{IsNowhere, IsSample};
-ghost use Rattle.isl_span.specs.Chain.{AreHullRows};
+ghost use Rattle.isl_span.specs.Chain.{AreHullRows, IsPlainChain};
 ghost use Rattle.isl_span.specs.Points.{AreFormsFor, IsHullSystem, IsOver, IsPoint};
+ghost use Rattle.isl_span.specs.Work.{hull_units};
 
 use crate::chain::{chain_of, push_padded};
+use crate::few::all_with_few_rows;
 use crate::forms::{exchanged, number_forms};
 use crate::points::{first_point, point_off};
 use isl_meter::{Cut, Meter};
@@ -73,10 +78,15 @@ fn equations_of(
         (IsNowhere columns (HoldsAtAny systems.now))
         (AreHullRows meter.old columns (IsPoint columns systems.now))) }
     ensures meter { IsMetered meter.old meter.new result }
+    ensures tame { (size : Size) → meter.old.bits ≡ 127 → columns ≡ 0 → size.columns ≡ 0 → size.bits ≤ 119
+        → AreOfSize size systems.now → IsTame 0 meter.old meter.new (λ _. ⊤) result }
 {
     let Some(point) = first_point(alloc, systems, columns, meter)? else {
         return Ok(None);
     };
+    if columns == 0 {
+        return Ok(Some(Rows::new(alloc)));
+    }
     Ok(Some(rows_through(alloc, systems, point.as_slice(), meter)?))
 }
 
@@ -85,7 +95,9 @@ fn equations_of(
 ///
 /// # Errors
 ///
-/// `Overflow` where a number passes the limit of the meter, `Budget` where its units are used up, and `NoMemory`.
+/// `Overflow` where a number passes the limit of the meter, `Budget` where its units are used up, and `NoMemory`. Of one system of
+/// difference constraints with a point `hull_units` tells how many units are enough, where 127 bits have room for one bit more with each
+/// column, and one more.
 #[tactic(auto, using(std::proofs::lemmas::Grind::common_steps, isl_meter::proofs::CutLemmas::charges))]
 pub fn hull_of(
     alloc: Global,
@@ -98,9 +110,12 @@ pub fn hull_of(
         (IsNowhere columns (HoldsAtAny systems.items))
         (IsHullSystem meter.old columns (IsPoint columns systems.items))) }
     ensures meter { IsMetered meter.old meter.new result }
+    ensures tame { (bits : ℕ) (s : System) → meter.old.bits ≡ 127 → bits + 1 + columns ≤ 120 → systems.items ≡ s ∷ []
+        → IsPlainChain columns bits s → IsTame (hull_units columns) meter.old meter.new (λ _. ⊤) result }
 {
     let mut chain = chain_of(alloc, systems, columns, meter)?;
-    let Some(rest) = equations_of(alloc, chain.left.as_slice(), chain.first, meter)? else {
+    let few = all_with_few_rows(alloc, chain.left.as_slice(), chain.first, meter)?;
+    let Some(rest) = equations_of(alloc, few.as_slice(), chain.first, meter)? else {
         return Ok(None);
     };
     push_padded(alloc, &mut chain.rows, rest.as_slice(), columns)?;

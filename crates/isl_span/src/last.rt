@@ -1,15 +1,18 @@
 //! What the last column of a system adds to the affine hull of its points.
 
-ghost use Rattle.std.specs.Prelude.{◌≡◌, ◌≢◌, ◌⊎◌, ◌↔◌, ◌+◌, ◌≤◌, ◌≤ℤ◌, ℕ, ℤ, List, pos, [], ◌∷◌, All, IfOk, IsTrue, MatchOption};
-ghost use Rattle.std.specs.Prelude.{unsigned_abs};
+ghost use Rattle.std.specs.Prelude.{◌≡◌, ◌≢◌, ◌⊎◌, ◌↔◌, ◌+◌, ◌*◌, ◌≤◌, ◌≤ℤ◌, ℕ, ℤ, ⊤, List, pos, [], ◌∷◌, All, IfOk, IsTrue, MatchOption};
+ghost use Rattle.std.specs.Prelude.{length, unsigned_abs};
 ghost use Rattle.isl_meter.specs.Gauge.{IsMetered};
 ghost use Rattle.isl_piece.specs.declared.system.System.{System};
 ghost use Rattle.isl_piece.specs.Row.{HoldsRow, IsRowWithin, IsWellFormed, coef_at, value_at};
 ghost use Rattle.isl_piece.specs.System.{HoldsSystem, IsSystemWithin, free_columns};
+ghost use Rattle.isl_ledger.specs.Answered.{IsTame};
+ghost use Rattle.isl_ledger.specs.Difference.{HasDifferenceRows, IsDifferenceRow};
 ghost use Rattle.isl_elim.specs.Sample.{IsNowhere};
 ghost use Rattle.isl_span.specs.Chain.{IsFreeAtLast, IsLastEquation, IsLinkOf, IsNoEquation, IsPlainChain, IsSmall, IsUnit};
 ghost use Rattle.isl_span.specs.Chain.{IsUnitForm, IsZeroOn};
 ghost use Rattle.isl_span.specs.Points.{IsOver, IsPoint};
+ghost use Rattle.isl_span.specs.Work.{link_units, test_units};
 
 use crate::link::Link;
 use crate::moved::moved;
@@ -46,6 +49,8 @@ fn is_nowhere(alloc: Global, system: System, meter: &mut Meter) -> Result<bool, 
     requires { IsSystemWithin meter.old system }
     ensures exact { IfOk result (λ empty. IsTrue empty ↔ IsNowhere (free_columns system) (HoldsSystem system)) }
     ensures meter { IsMetered meter.old meter.new result }
+    ensures tame { (columns bits : ℕ) → meter.old.bits ≡ 127 → bits + columns ≤ 120 → HasDifferenceRows columns bits system
+        → IsTame (test_units columns) meter.old meter.new (λ _. ⊤) result }
 {
     Ok(live_form(alloc, system, meter)?.is_none())
 }
@@ -66,6 +71,8 @@ fn is_below_one(
     ensures exact { IfOk result (λ below. IsTrue below
         ↔ IsNowhere columns (λ point. HoldsSystem system.now point × (pos 1 ≤ℤ value_at row.now point))) }
     ensures meter { IsMetered meter.old meter.new result }
+    ensures tame { (bits : ℕ) → meter.old.bits ≡ 127 → bits + 1 + columns ≤ 120 → HasDifferenceRows columns bits system.now
+        → IsDifferenceRow bits row.now → IsTame (test_units columns) meter.old meter.new (λ _. ⊤) result }
 {
     let constant = row.constant().sub(Int::ONE, meter)?;
     let above = Row::new(RowKind::AtLeast, row.coefs.copy(alloc)?, constant, Int::ONE);
@@ -89,6 +96,8 @@ fn is_zero_on(
     requires holds { (point : List ℤ) → HoldsSystem system.now point → HoldsRow row.now point }
     ensures exact { IfOk result (λ zero. IsTrue zero ↔ IsZeroOn (IsPoint columns (system.now ∷ [])) row.now) }
     ensures meter { IsMetered meter.old meter.new result }
+    ensures tame { (bits : ℕ) → meter.old.bits ≡ 127 → bits + 1 + columns ≤ 120 → HasDifferenceRows columns bits system.now
+        → IsDifferenceRow bits row.now → IsTame (test_units columns) meter.old meter.new (λ _. ⊤) result }
 {
     if row.kind == RowKind::Zero {
         return Ok(true);
@@ -114,6 +123,8 @@ fn equation_by(
         (IsNoEquation last (IsPoint (last + 1) (system.now ∷ [])) row.now)
         (IsLastEquation meter.old last (IsPoint (last + 1) (system.now ∷ [])))) }
     ensures meter { IsMetered meter.old meter.new result }
+    ensures tame { (bits : ℕ) → meter.old.bits ≡ 127 → bits + 1 + (last + 1) ≤ 120 → HasDifferenceRows (last + 1) bits system.now
+        → IsDifferenceRow bits row.now → IsTame (test_units (last + 1)) meter.old meter.new (λ _. ⊤) result }
 {
     if !is_unit(row.coefs.get(last)) {
         return Ok(None);
@@ -141,6 +152,8 @@ fn equation_among(
         (All (λ r. r.kind ≡ kind → IsNoEquation last (IsPoint (last + 1) (system.now ∷ [])) r) system.now.rows)
         (IsLastEquation meter.old last (IsPoint (last + 1) (system.now ∷ [])))) }
     ensures meter { IsMetered meter.old meter.new result }
+    ensures tame { (bits : ℕ) → meter.old.bits ≡ 127 → bits + 1 + (last + 1) ≤ 120 → HasDifferenceRows (last + 1) bits system.now
+        → IsTame (length system.now.rows * test_units (last + 1)) meter.old meter.new (λ _. ⊤) result }
 {
     for row in system.rows.as_slice() {
         if row.kind != kind {
@@ -160,6 +173,8 @@ fn is_free(alloc: Global, system: &System, last: usize, meter: &mut Meter) -> Re
     requires plain { system.now.definitions ≡ [] }
     ensures exact { IfOk result (λ free. IsTrue free ↔ IsFreeAtLast last (IsPoint (last + 1) (system.now ∷ []))) }
     ensures meter { IsMetered meter.old meter.new result }
+    ensures tame { (bits : ℕ) → meter.old.bits ≡ 127 → bits + 1 + (last + 1) ≤ 120 → HasDifferenceRows (last + 1) bits system.now
+        → IsTame (test_units (last + 1)) meter.old meter.new (λ _. ⊤) result }
 {
     let both = meet(alloc, system, &moved(alloc, system, last, meter)?)?;
     let empty = is_nowhere(alloc, both, meter)?;
@@ -174,6 +189,8 @@ fn link_in(alloc: Global, system: &System, last: usize, meter: &mut Meter) -> Re
     ensures exact { IfOk result (IsLinkOf meter.old last (system.now ∷ [])) }
     ensures seen { (bits : ℕ) → IsPlainChain (last + 1) bits system.now → IfOk result (λ link. link ≢ Link.Unknown) }
     ensures meter { IsMetered meter.old meter.new result }
+    ensures tame { (bits : ℕ) → meter.old.bits ≡ 127 → bits + 1 + (last + 1) ≤ 120 → IsPlainChain (last + 1) bits system.now
+        → IsTame (link_units (last + 1)) meter.old meter.new (λ _. ⊤) result }
 {
     if let Some(row) = equation_among(alloc, system, last, RowKind::Zero, meter)? {
         return Ok(Link::Equation(row));
@@ -246,6 +263,8 @@ pub(crate) fn link_of(
     ensures seen { (bits : ℕ) (s : System) → systems.now ≡ s ∷ [] → IsPlainChain (last + 1) bits s
         → IfOk result (λ link. link ≢ Link.Unknown) }
     ensures meter { IsMetered meter.old meter.new result }
+    ensures tame { (bits : ℕ) (s : System) → meter.old.bits ≡ 127 → bits + 1 + (last + 1) ≤ 120 → systems.now ≡ s ∷ []
+        → IsPlainChain (last + 1) bits s → IsTame (link_units (last + 1)) meter.old meter.new (λ _. ⊤) result }
 {
     if systems.len() != 1 {
         return Ok(Link::Unknown);

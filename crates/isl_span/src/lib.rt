@@ -2,6 +2,7 @@
 #![tactic(auto)]
 
 mod chain;
+mod few;
 mod forms;
 mod hull;
 mod last;

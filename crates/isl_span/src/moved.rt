@@ -1,9 +1,11 @@
 //! Systems that hold at the points that are points of others once one number is changed by 1.
 
-ghost use Rattle.std.specs.Prelude.{◌≡◌, ◌+◌, ◌<◌, ◌+ℤ◌, [], pos, All, IfOk, MatchResult, map};
+ghost use Rattle.std.specs.Prelude.{◌≡◌, ◌+◌, ◌<◌, ◌≤◌, ◌+ℤ◌, [], pos, ℕ, ⊤, All, IfOk, MatchResult, map};
 ghost use Rattle.isl_meter.specs.Gauge.{IsCutBy, IsMetered, IsWithin};
 ghost use Rattle.isl_piece.specs.Row.{IsRowWithin, IsWellFormed, coef_at};
 ghost use Rattle.isl_piece.specs.System.{IsSystemWithin};
+ghost use Rattle.isl_ledger.specs.Answered.{IsTame};
+ghost use Rattle.isl_ledger.specs.Difference.{IsDifferenceRow};
 ghost use Rattle.isl_span.specs.Moved.{moved_row};
 
 use isl_meter::{Cut, Meter};
@@ -18,6 +20,8 @@ fn moved_row(alloc: Global, row: &Row, column: usize, meter: &mut Meter) -> Resu
     ensures exact { IfOk result (λ made. made ≡ moved_row column row.now) }
     ensures within { IfOk result (IsRowWithin meter.old) }
     ensures meter { IsMetered meter.old meter.new result }
+    ensures tame { (bits : ℕ) → meter.old.bits ≡ 127 → bits + 1 ≤ 120 → IsDifferenceRow bits row.now
+        → IsTame 0 meter.old meter.new (λ _. ⊤) result }
 {
     let constant = row.constant().add(row.coefs.get(column), meter)?;
     let coefs = row.coefs.copy(alloc)?;
@@ -43,6 +47,8 @@ pub(crate) fn moved(
         ≡ record { columns = system.now.columns; definitions = []; rows = map (moved_row last) system.now.rows }) }
     ensures within { IfOk result (IsSystemWithin meter.old) }
     ensures meter { IsMetered meter.old meter.new result }
+    ensures tame { (bits : ℕ) → meter.old.bits ≡ 127 → bits + 1 ≤ 120 → All (IsDifferenceRow bits) system.now.rows
+        → IsTame 0 meter.old meter.new (λ _. ⊤) result }
 {
     let mut rows = Rows::with_capacity(alloc, system.rows.len())?;
     for row in system.rows.as_slice() {

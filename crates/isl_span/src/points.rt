@@ -1,13 +1,16 @@
 //! Points of systems at which a form is not 0.
 
-ghost use Rattle.std.specs.Prelude.{◌≡◌, ◌≢◌, ◌∷◌, [], ℤ, List, pos, All, Any, IfOk, MatchOption, length};
+ghost use Rattle.std.specs.Prelude.{◌≡◌, ◌≢◌, ◌+◌, ◌*◌, ◌≤◌, ◌∷◌, [], ℤ, ⊤, List, pos, All, Any, IfOk, MatchOption, length};
 ghost use Rattle.isl_meter.specs.Gauge.{IsMetered};
 ghost use Rattle.isl_piece.specs.Row.{HoldsRow, IsRowWithin, IsWellFormed, value_at};
 ghost use Rattle.isl_piece.specs.System.{HoldsSystem};
+ghost use Rattle.isl_ledger.specs.Answered.{IsTame};
+ghost use Rattle.isl_ledger.specs.Work.{Size, AreOfSize};
 ghost use Rattle.isl_elim.specs.Elimination.{HoldsAtAny};
 ghost use Rattle.isl_elim.specs.Sample.{IsNowhere, IsSample};
 ghost use Rattle.isl_span.specs.Forms.{IsForm};
 ghost use Rattle.isl_span.specs.Points.{IsOver, IsPoint};
+ghost use Rattle.isl_span.specs.Work.{test_units};
 
 use isl_elim::sample_point;
 use isl_meter::{Cut, Meter};
@@ -31,6 +34,8 @@ pub(crate) fn first_point(
         (IsNowhere columns (HoldsAtAny systems.now))
         (λ point. IsSample meter.old columns (HoldsAtAny systems.now) point.items)) }
     ensures meter { IsMetered meter.old meter.new result }
+    ensures tame { (size : Size) → meter.old.bits ≡ 127 → size.bits + size.columns ≤ 119 → AreOfSize size systems.now
+        → IsTame (length systems.now * test_units size.columns) meter.old meter.new (λ _. ⊤) result }
 {
     for system in systems {
         if let Some(point) = sample_point(alloc, system, meter)? {

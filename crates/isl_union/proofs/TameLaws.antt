@@ -19,10 +19,10 @@ use Rattle.isl_piece.specs.Piece.{PieceView}
 use Rattle.isl_ledger.specs.Answered.{IsTame}
 use Rattle.isl_ledger.specs.Difference.{IsDifferenceRow, IsDifferenceSystem}
 use Rattle.isl_ledger.specs.Work.{Size, AreOfSize, allowance, drop_size, row_limit}
-use Rattle.isl_ledger.proofs.SizeLaws.{of_size_append, of_size_wider}
+use Rattle.isl_ledger.proofs.SizeLaws.{differences_of, of_size_append, of_size_wider}
 use Rattle.isl_ledger.proofs.WorkLaws.{allowance_more}
-use Rattle.isl_difference.specs.Tame.{left_size, left_work, part_limit, HasDifferenceRows}
-use Rattle.isl_difference.proofs.TameLaws.{differences_of, left_size_more, left_work_more, one_of_size, part_limit_more, tame_memory}
+use Rattle.isl_difference.specs.Tame.{left_size, left_work, part_limit, HasNormalDifferences}
+use Rattle.isl_difference.proofs.TameLaws.{left_size_more, left_work_more, normal_rows_of, one_of_size, part_limit_more, tame_memory}
 use Rattle.isl_union.specs.declared.fault.OpFault.{OpFault}
 use Rattle.isl_union.specs.declared.fault.OpFault.TheVariants as op_fault
 use Rattle.isl_union.specs.Fault.{fault_of, IsPlainFault}
@@ -122,12 +122,12 @@ found_more i columns bits kept pushed o is found h =
 
 -- the rows of both
 pub both_differences : (columns bits : ℕ) (a b both : System) → IsDifferenceSystem columns bits a → IsDifferenceSystem columns bits b
-    → both ≡ over_same_columns a b → HasDifferenceRows columns bits both
-both_differences columns bits a b both h k is = rw is (record {
+    → both ≡ over_same_columns a b → HasNormalDifferences columns bits both
+both_differences columns bits a b both h k is = rw is (normal_rows_of columns bits (over_same_columns a b) (record {
   narrow = h.narrow;
   undefined = h.undefined;
   rows = All-append (IsDifferenceRow bits) a.rows b.rows h.rows k.rows;
-})
+}))
 
 pub few_filtered : (p : PieceView → Bool) (pieces : List PieceView) → length (filter p pieces) ≤ length pieces
 few_filtered p [] = omega arith
@@ -226,8 +226,10 @@ narrowed_work c t n one = by (c - t) (omega arith)
         omega (arith, few, both)
 
 pub narrowed_rows : (count columns bits : ℕ) (systems : List System)
-    → AreOfSize (drop_size count (size_of 1 columns bits)) systems → All (HasDifferenceRows (columns - count) (bits + count)) systems
-narrowed_rows count columns bits systems h = λ k d l. differences_of (columns - count) (bits + count) (get_or systems k d) (h.each k d l)
+    → AreOfSize (drop_size count (size_of 1 columns bits)) systems → All (HasNormalDifferences (columns - count) (bits + count)) systems
+narrowed_rows count columns bits systems h = λ k d l.
+    let s = get_or systems k d in
+    normal_rows_of (columns - count) (bits + count) s (differences_of (columns - count) (bits + count) s (h.each k d l))
 
 pub narrowed_sized : (n columns bits : ℕ) (more : List PieceView) → n ≤ 1 → AreOfSize (size_of n columns bits) (systems_of more)
     → AreOfSize (size_of 1 columns bits) (systems_of more)

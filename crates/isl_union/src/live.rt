@@ -1,6 +1,6 @@
 //! Pieces that have elements, and the values that are made of pieces.
 
-ghost use Rattle.std.specs.Prelude.{◌≡◌, ◌↔◌, ◌+◌, ◌*◌, ◌≤◌, ◌++◌, ℕ, List, All, Any};
+ghost use Rattle.std.specs.Prelude.{◌≡◌, ◌↔◌, ◌+◌, ◌*◌, ◌≤◌, ◌++◌, ℕ, List, [], All, Any, Some};
 ghost use Rattle.std.specs.Prelude.{IfOk, IfSome, MatchResult, OnOk, length, map, option_map, option_to_list};
 ghost use Rattle.isl_meter.specs.Gauge.{IsCharged, IsCutBy, IsMetered};
 ghost use Rattle.isl_space.specs.Element.{Element};
@@ -9,6 +9,8 @@ ghost use Rattle.isl_space.specs.Names.{IsParameterList};
 ghost use Rattle.isl_space.specs.Space.{space_form_of};
 ghost use Rattle.isl_space.specs.SpaceForm.{IsWellFormedSpace};
 ghost use Rattle.isl_space.specs.Valuation.{Valuation};
+ghost use Rattle.isl_piece.specs.declared.system.System.{System};
+ghost use Rattle.isl_piece.specs.Normal.{normal_system};
 ghost use Rattle.isl_piece.specs.System.{HoldsSystem, IsSystemWithin, free_columns};
 ghost use Rattle.isl_piece.specs.Formed.{IsSystemUpTo};
 ghost use Rattle.std.specs.List.{filter_map};
@@ -16,7 +18,8 @@ ghost use Rattle.isl_ledger.specs.Answered.{IsTame};
 ghost use Rattle.isl_ledger.specs.Difference.{IsDifferenceSystem};
 ghost use Rattle.isl_ledger.specs.Work.{AreOfSize};
 ghost use Rattle.isl_elim.specs.Sample.{IsNowhere};
-ghost use Rattle.isl_difference.specs.Tame.{HasDifferenceRows};
+ghost use Rattle.isl_elim.specs.Spent.{IsSpentOn};
+ghost use Rattle.isl_difference.specs.Tame.{HasNormalDifferences};
 ghost use Rattle.isl_union.specs.KeptValue.{columns_of, Has, HasElement, IsKeptValue};
 ghost use Rattle.isl_union.specs.Live.{normal_of, settled, AreLiveOf, IsLiveForm, IsLiveOf};
 ghost use Rattle.isl_union.specs.Numbers.{HasNumbersUpTo};
@@ -38,7 +41,9 @@ fn live_system(alloc: Global, system: System, meter: &mut Meter) -> Result<Optio
     ensures exact { MatchResult result
         (λ found. IsLiveForm system found × IsCharged meter.old meter.new)
         (IsCutBy meter.old meter.new) }
-    ensures tame { (columns bits : ℕ) → meter.old.bits ≡ 127 → bits + columns ≤ 120 → HasDifferenceRows columns bits system
+    ensures one { (normal : System) → normal_system system ≡ Some normal → system.definitions ≡ [] → system.columns ≡ 1
+        → IsSpentOn normal.rows 0 meter.old meter.new result }
+    ensures tame { (columns bits : ℕ) → meter.old.bits ≡ 127 → bits + columns ≤ 120 → HasNormalDifferences columns bits system
         → IsTame (columns * (columns * columns)) meter.old meter.new (λ found. IfSome found (IsDifferenceSystem columns bits)) result }
 {
     let Some(normal) = normalise(alloc, system, meter)? else {
@@ -50,7 +55,8 @@ fn live_system(alloc: Global, system: System, meter: &mut Meter) -> Result<Optio
     Ok(Some(normal))
 }
 
-/// The piece of the space with the system's normal rows; none where the system holds at no point.
+/// The piece of the space with the system's normal rows; none where the system holds at no point. Of one column the normal rows cost what
+/// elimination of it does.
 ///
 /// # Errors
 ///
@@ -68,7 +74,9 @@ pub fn live_piece(
         → IfOk result (λ found. IsLiveOf params (normal_of (piece_of (space_form_of space.now) system)) (option_map kept_piece found)
         × IfSome found (IsPieceOf params)) }
     ensures meter { IsMetered meter.old meter.new result }
-    ensures tame { (columns bits : ℕ) → meter.old.bits ≡ 127 → bits + columns ≤ 120 → HasDifferenceRows columns bits system
+    ensures one { (normal : System) → normal_system system ≡ Some normal → system.definitions ≡ [] → system.columns ≡ 1
+        → IsSpentOn normal.rows 0 meter.old meter.new result }
+    ensures tame { (columns bits : ℕ) → meter.old.bits ≡ 127 → bits + columns ≤ 120 → HasNormalDifferences columns bits system
         → IsTame (columns * (columns * columns)) meter.old meter.new
         (λ found. IfSome found (λ piece. IsDifferenceSystem columns bits piece.system)) result }
 {
@@ -136,7 +144,7 @@ fn live_pieces(
     ensures sound { IfOk result (λ kept. All (IsPieceOf params.now) kept.items) }
     ensures meter { IsMetered meter.old meter.new result }
     ensures tame { (columns bits : ℕ) → meter.old.bits ≡ 127 → bits + columns ≤ 120
-        → All (λ piece. HasDifferenceRows columns bits piece.system) pieces.now
+        → All (λ piece. HasNormalDifferences columns bits piece.system) pieces.now
         → IsTame (length pieces.now * (columns * (columns * columns))) meter.old meter.new
         (λ kept. AreOfSize (size_of (length pieces.now) columns bits) (systems_of kept.items)) result }
 {
@@ -190,7 +198,7 @@ impl Value {
         ensures numbers { (most : ℕ) → All (λ piece. IsSystemUpTo most piece.system) pieces.items → IfOk result (HasNumbersUpTo most) }
         ensures meter { IsMetered meter.old meter.new result }
         ensures tame { (columns bits : ℕ) → meter.old.bits ≡ 127 → bits + columns ≤ 120
-            → All (λ piece. HasDifferenceRows columns bits piece.system) pieces.items
+            → All (λ piece. HasNormalDifferences columns bits piece.system) pieces.items
             → IsTame (length pieces.items * (columns * (columns * columns))) meter.old meter.new
             (λ value. IsOfSize value.params (size_of (length pieces.items) columns bits) value) result }
     {

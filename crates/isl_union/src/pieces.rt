@@ -9,7 +9,7 @@ ghost use Rattle.isl_space.specs.Valuation.{Valuation};
 ghost use Rattle.isl_piece.specs.System.{IsSystemWithin, free_columns};
 ghost use Rattle.isl_ledger.specs.Answered.{IsTame};
 ghost use Rattle.isl_ledger.specs.Work.{AreOfSize};
-ghost use Rattle.isl_difference.specs.Tame.{HasDifferenceRows};
+ghost use Rattle.isl_difference.specs.Tame.{HasNormalDifferences};
 ghost use Rattle.isl_union.specs.KeptValue.{HasElement, columns_of};
 ghost use Rattle.isl_union.specs.Minus.{piece_in};
 ghost use Rattle.isl_union.specs.Numbers.{IsPieceUpTo};
@@ -79,7 +79,7 @@ pub fn live_pieces_in(
     ensures numbers { IfOk result (λ kept. All (IsPieceUpTo (unsigned_abs (limit_of meter.old))) (map kept_piece kept.items)) }
     ensures few { IfOk result (λ kept. length kept.items ≤ length systems.items) }
     ensures meter { IsMetered meter.old meter.new result }
-    ensures tame { (columns bits : ℕ) → meter.old.bits ≡ 127 → bits + columns ≤ 120 → All (HasDifferenceRows columns bits) systems.items
+    ensures tame { (columns bits : ℕ) → meter.old.bits ≡ 127 → bits + columns ≤ 120 → All (HasNormalDifferences columns bits) systems.items
         → IsTame (length systems.items * (columns * (columns * columns))) meter.old meter.new
         (λ kept. AreOfSize (size_of (length systems.items) columns bits) (systems_of kept.items)) result }
 {

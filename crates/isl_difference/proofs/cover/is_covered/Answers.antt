@@ -5,12 +5,11 @@ use Rattle.std.proofs.lemmas.List.{length-map, length-take-le}
 use Rattle.std.proofs.lemmas.Result.{IfOk-weaker, err_from_is_err_and}
 use Rattle.isl_meter.proofs.CutLemmas.{IsCharged_refl}
 use Rattle.isl_piece.specs.System.{HoldsSystem, IsSystemWithin, free_columns}
-use Rattle.isl_ledger.specs.Difference.{IsDifferenceSystem}
 use Rattle.isl_elim.specs.Sample.{IsNowhere}
 use Rattle.isl_elim.proofs.PartsLaws.{charged_bits}
 use Rattle.isl_difference.specs.Cover.{AreInside}
 use Rattle.isl_difference.specs.Difference.{IsCovered}
-use Rattle.isl_difference.specs.Tame.{part_limit, test_work, left_work}
+use Rattle.isl_difference.specs.Tame.{HasFewDifferences, part_limit, test_work, left_work}
 use Rattle.isl_difference.proofs.CoverLaws.{all_before, covered_by, covered_only, with_last}
 use Rattle.isl_difference.proofs.DifferenceLaws.{system_at, system_within}
 use Rattle.isl_difference.proofs.PartitionLaws.{mapped_at}
@@ -96,7 +95,7 @@ returns-in_err-left-clause-tame c = λ columns bits limit room d all live.
     let before = length (take n refs) in
     let long : n + 1 ≡ length refs = grind (arith, common_steps) in
     let short : before ≡ n = length-take-le n refs (omega arith) in
-    let first = all_before (IsDifferenceSystem columns bits) (λ o. o.now) refs n all in
+    let first = all_before (HasFewDifferences columns bits) (λ o. o.now) refs n all in
     let cut = c.in_err-left.ensures.tame columns bits limit room d first in
     let error = err_from_is_err_and c.from_residual.result c.from_residual.ensures.1 in
     rw (error.1, error.2) (tame_cut 0 (left_work columns before) (left_work columns (length refs)) g g c.outside.new.meter _ _
@@ -112,7 +111,7 @@ returns-clause-tame c = λ columns bits limit room d all live.
     let before = length (take n refs) in
     let long : n + 1 ≡ length refs = grind (arith, common_steps) in
     let short : before ≡ n = length-take-le n refs (omega arith) in
-    let first = all_before (IsDifferenceSystem columns bits) (λ o. o.now) refs n all in
+    let first = all_before (HasFewDifferences columns bits) (λ o. o.now) refs n all in
     let h = c.outside.new.meter in
     let others = map (λ o. o.now) refs in
     let last = c.index-others-last.result in
@@ -121,7 +120,7 @@ returns-clause-tame c = λ columns bits limit room d all live.
     let low : n < length refs = grind (arith, common_steps) in
     let inside : n < length others = rw (length-map refs (λ o. o.now)) low in
     let is = mapped_at (λ o. o.now) refs n last low c.index-others-last.is in
-    let own = system_at (IsDifferenceSystem columns bits) others n last.now all inside is in
+    let own = system_at (HasFewDifferences columns bits) others n last.now all inside is in
     let some = system_at (λ other. ¬ IsNowhere (free_columns other) (HoldsSystem other)) others n last.now live inside is in
     let within = system_at (IsSystemWithin g) others n last.now c.requires.others_within inside is in
     let few = rows_few_live g columns bits last.now within own some in

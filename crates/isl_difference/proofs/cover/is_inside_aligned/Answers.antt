@@ -7,7 +7,8 @@ use Rattle.isl_difference.specs.Cover.{IsInside}
 use Rattle.isl_difference.specs.Split.{HoldsBut}
 use Rattle.isl_difference.proofs.CoverLaws.{inside_rows}
 use Rattle.isl_difference.specs.Tame.{part_limit, test_work}
-use Rattle.isl_difference.proofs.TameLaws.{differences_of, rows_alone, tame_ok}
+use Rattle.isl_ledger.proofs.SizeLaws.{differences_of}
+use Rattle.isl_difference.proofs.TameLaws.{rows_alone, tame_ok}
 use Rattle.isl_ledger.proofs.AnsweredLaws.{tame_more}
 use Rattle.isl_difference.proofs.cover.is_inside_aligned.Goals as goal
 

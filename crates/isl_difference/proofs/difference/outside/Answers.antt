@@ -3,9 +3,8 @@ use Rattle.std.proofs.lemmas.Grind.{common_steps}
 use Rattle.std.proofs.lemmas.List.{length-map, length-take-le, nil_from_length}
 use Rattle.std.proofs.lemmas.List.Elements.{All-take}
 use Rattle.std.proofs.lemmas.Result.{err_from_is_err_and}
-use Rattle.isl_ledger.specs.Difference.{IsDifferenceSystem}
 use Rattle.isl_elim.proofs.PartsLaws.{charged_bits}
-use Rattle.isl_difference.specs.Tame.{part_limit, test_work, left_work}
+use Rattle.isl_difference.specs.Tame.{HasFewDifferences, part_limit, test_work, left_work}
 use Rattle.isl_difference.proofs.DifferenceLaws.{all_none, left_columns, left_disjoint, left_more, left_none, left_tame, left_within}
 use Rattle.isl_difference.proofs.DifferenceLaws.{system_within, IsPlain}
 use Rattle.isl_difference.proofs.PartitionLaws.{mapped_at}
@@ -122,10 +121,10 @@ returns-in_err-left-2-clause-tame c = λ columns bits limit room d all.
     let long = length-map refs (λ o. o.now) in
     let inside : i < length others = rw long low in
     let is = mapped_at (λ o. o.now) refs i c.other-item.result low c.other-item.is in
-    let other : IsDifferenceSystem columns bits c.other-item.result.now = rw is (all i c.other-item.result.now inside) in
+    let other : HasFewDifferences columns bits c.other-item.result.now = rw is (all i c.other-item.result.now inside) in
     let before = length (take i others) in
     let fewer : before < length refs = (let t = length-take-le i others (omega arith) in omega arith) in
-    let so = c.loop-other.invariant.tame columns bits limit room d (All-take (IsDifferenceSystem columns bits) i others all) in
+    let so = c.loop-other.invariant.tame columns bits limit room d (All-take (HasFewDifferences columns bits) i others all) in
     let limit_then = charged_bits g h c.loop-other.invariant.charged ∙ limit in
     let cut = c.in_err-left-2.ensures.tame columns bits limit_then room so.size.each other in
     let error = err_from_is_err_and c.from_residual-in_err-left-2.result c.from_residual-in_err-left-2.ensures.1 in

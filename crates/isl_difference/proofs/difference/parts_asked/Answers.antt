@@ -8,7 +8,8 @@ use Rattle.isl_difference.specs.Tame.{part_limit, test_work}
 use Rattle.isl_difference.proofs.DifferenceLaws.{asked_more, none_common, other_live, split_left}
 use Rattle.isl_difference.proofs.LiveLaws.{not_true}
 use Rattle.isl_difference.proofs.SplitLaws.{charged_within, one_room, turn_units, turn_within, unit_room, unit_used}
-use Rattle.isl_difference.proofs.TameLaws.{both_differences, differences_of, first_within, more_pieces, rows_few_live, rows_parts, rows_work}
+use Rattle.isl_ledger.proofs.SizeLaws.{differences_of}
+use Rattle.isl_difference.proofs.TameLaws.{both_differences, first_within, more_pieces, rows_few_live, rows_parts, rows_work}
 use Rattle.isl_difference.proofs.TameLaws.{tame_cut, tame_memory, tame_ok, tame_refused, test_within}
 use Rattle.isl_difference.proofs.difference.parts_asked.Goals as goal
 

@@ -5,10 +5,10 @@ use Rattle.std.proofs.lemmas.List.Elements.{All-nil, All-cons, All-take}
 use Rattle.std.proofs.lemmas.Result.{err_from_is_err_and}
 use Rattle.isl_meter.specs.Gauge.{IsCharged}
 use Rattle.isl_meter.proofs.CutLemmas.{charges}
-use Rattle.isl_ledger.specs.Difference.{IsDifferenceRow}
+use Rattle.isl_ledger.specs.Difference.{HasDifferenceRows, IsDifferenceRow}
 use Rattle.isl_elim.proofs.PartsLaws.{charged_bits}
 use Rattle.isl_difference.specs.Split.{and_rows, IsPushed}
-use Rattle.isl_difference.specs.Tame.{HasDifferenceRows, test_work}
+use Rattle.isl_difference.specs.Tame.{test_work}
 use Rattle.isl_difference.proofs.SplitLaws.{failing_within, failing_more, one_room, test_room, unit_room, unit_used}
 use Rattle.isl_difference.proofs.TameLaws.{and_rows_differences, taken_turn, tame_cut, tame_memory, tame_ok, tame_refused}
 use Rattle.isl_difference.proofs.split.holding.Goals as goal

@@ -1,4 +1,4 @@
-use Rattle.std.proofs.Common.{◌≡◌, ◌∷◌, ◌++◌, ◌<◌, ◌-◌, ◌+◌, ◌*◌, ◌∙◌, [], refl, sym, ap, subst, arith, get_or, length, true, None, IfSome, Ok, Err, List, ℤ}
+use Rattle.std.proofs.Common.{◌≡◌, ◌∷◌, ◌++◌, ◌<◌, ◌-◌, ◌+◌, ◌*◌, ◌∙◌, [], refl, sym, ap, subst, arith, get_or, length, true, None, IfSome, Ok, Err, List, ℕ, ℤ}
 use Rattle.std.specs.List.{All}
 use Rattle.std.proofs.lemmas.List.{nil_from_length}
 use Rattle.std.proofs.lemmas.Result.{err_from_is_err_and}
@@ -18,6 +18,12 @@ use Rattle.isl_elim.proofs.AlongLaws.{pushed_first, pushed_next, pushed_all, one
 use Rattle.isl_elim.proofs.FewerLaws.{along_alike}
 use Rattle.isl_simpler.specs.Emptiness.{HoldNowhere}
 use Rattle.isl_elim.proofs.PartsLaws.{part_found, parts_after}
+use Rattle.isl_shadows.specs.Column.{HoldAtSome}
+use Rattle.isl_omega.specs.Column.{AreRowsOf}
+use Rattle.isl_elim.specs.Narrow.{IsNarrow}
+use Rattle.isl_elim.proofs.AlongLaws.{along_narrow, along_none_of, along_rows, along_some}
+use Rattle.isl_elim.proofs.FewerLaws.{rows_within}
+use Rattle.isl_elim.proofs.NarrowLaws.{narrow_in, narrow_low, narrow_no_difference}
 use Rattle.isl_elim.proofs.along.+eliminate_all.Goals as goal
 
 pub push_parts-returns : goal.push_parts-returns
@@ -43,8 +49,95 @@ push_parts-returns t c =
       };
     }
 
-pub push_without-returns-then-is_empty : goal.push_without-returns-then-is_empty
-push_without-returns-then-is_empty t c =
+-- ---- a column between two opposite bounds
+pub push_without-narrow_among-requires : goal.push_without-narrow_among-requires
+push_without-narrow_among-requires t c =
+    let slice : c.as_slice.result.now ≡ c.args.rows = grind arith in
+    record { within = rw slice (rows_within c.args.meter.now c.args.columns c.args.rows c.requires.rows) }
+
+pub push_without-push_narrow-requires : goal.push_without-push_narrow-requires
+push_without-push_narrow-requires t c =
+    let slice : c.as_slice.result.now ≡ c.args.rows = grind arith in
+    let is : IsNarrow c.args.rows c.args.cols.now c.in-Some.narrow = rw slice at (rw c.in-Some.is at c.narrow_among.ensures) in
+    (grind arith, (c.requires.rows, (is, (c.requires.distinct, c.requires.cols_in))))
+
+pub push_without-returns-in-Some : goal.push_without-returns-in-Some
+push_without-returns-in-Some t c =
+    let g = c.args.meter.now in
+    let slice : c.as_slice.result.now ≡ c.args.rows = grind arith in
+    let narrow = c.in-Some.narrow in
+    let is : IsNarrow c.args.rows c.args.cols.now narrow = rw slice at (rw c.in-Some.is at c.narrow_among.ensures) in
+    let low = narrow_low c.args.columns c.args.rows c.args.cols.now narrow is c.requires.cols_in in
+    record {
+      exact = c.push_narrow.ensures.exact;
+      counted = c.push_narrow.ensures.counted;
+      tame = record {
+        tame = λ bits full room given.
+            absurd (narrow_no_difference g c.args.columns bits c.args.rows narrow is.are c.requires.rows given low);
+      };
+    }
+
+pub push_narrow-without_narrow-requires : goal.push_narrow-without_narrow-requires
+push_narrow-without_narrow-requires t c = record { rows = c.requires.rows; narrow = c.requires.narrow.are; column = refl }
+
+pub push_narrow-push_without-requires : goal.push_narrow-push_without-requires
+push_narrow-push_without-requires t c =
+    let g = c.args.meter.now in
+    let rows = c.args.rows in
+    let cols = c.args.cols.now in
+    let narrow = c.args.narrow in
+    let low = narrow_low c.args.columns rows cols narrow c.requires.narrow c.requires.cols_in in
+    let same : c.without_narrow.new.meter ≡ g = grind arith in
+    let are : AreRowsOf g (c.args.columns - 1) (HoldAtSome rows narrow.col) c.in-Some.short = rw c.in-Some.is at c.in_ok-without_narrow.ensures.0 in
+    let slice : c.as_slice.result.now ≡ others_of narrow.col cols = grind arith in
+    let left = columns_after c.args.columns narrow.col cols c.as_slice.result.now slice c.requires.distinct low c.requires.cols_in in
+    (omega (arith, low), (rw same are.proper, (are.normal, left)))
+
+pub push_narrow-returns : goal.push_narrow-returns
+push_narrow-returns t c =
+    let g = c.args.meter.now in
+    let rows = c.args.rows in
+    let cols = c.args.cols.now in
+    let narrow = c.args.narrow in
+    let low = narrow_low c.args.columns rows cols narrow c.requires.narrow c.requires.cols_in in
+    let among = narrow_in rows cols narrow c.requires.narrow in
+    let same : c.without_narrow.new.meter ≡ g = grind arith in
+    let are : AreRowsOf g (c.args.columns - 1) (HoldAtSome rows narrow.col) c.in-Some.short = rw c.in-Some.is at c.in_ok-without_narrow.ensures.0 in
+    let slice : c.as_slice.result.now ≡ others_of narrow.col cols = grind arith in
+    let old = c.args.lists.now.items in
+    let new = c.push_without.new.lists.items in
+    let k = c.push_without.new.meter in
+    let e = rw (slice, same) at c.push_without.ensures in
+    record {
+      exact = along_narrow g k c.args.columns narrow.col cols rows old new c.push_without.result c.requires.distinct among low
+          (along_rows g k (c.args.columns - 1) (others_of narrow.col cols) (HoldAtSome rows narrow.col) c.in-Some.short old new
+          c.push_without.result are e.exact);
+      counted = e.counted;
+    }
+
+pub push_narrow-returns-in-None : goal.push_narrow-returns-in-None
+push_narrow-returns-in-None t c =
+    let g = c.args.meter.now in
+    let rows = c.args.rows in
+    let cols = c.args.cols.now in
+    let narrow = c.args.narrow in
+    let old = c.args.lists.now.items in
+    let low = narrow_low c.args.columns rows cols narrow c.requires.narrow c.requires.cols_in in
+    let among = narrow_in rows cols narrow c.requires.narrow in
+    let same : c.without_narrow.new.meter ≡ g = grind arith in
+    let none = rw c.in-None.is at c.in_ok-without_narrow.ensures.0 in
+    let left = along_none_of g (c.args.columns - 1) (others_of narrow.col cols) (HoldAtSome rows narrow.col) old none in
+    record {
+      exact = rw same (
+        along_some g g c.args.columns narrow.col cols rows (HoldAtSome rows narrow.col) old old c.requires.distinct among low
+            (IsCharged_refl g g refl) (λ point l. ((λ h. h), (λ h. h))) left,
+        IsCharged_refl g g refl,
+      );
+      counted = rw same (omega arith);
+    }
+
+pub push_by_parts-returns-then-is_empty : goal.push_by_parts-returns-then-is_empty
+push_by_parts-returns-then-is_empty t c =
     let g = c.args.meter.now in
     let empty : length c.args.cols.now ≡ 0 = grind arith in
     let none = nil_from_length c.args.cols.now empty in
@@ -66,8 +159,8 @@ push_without-returns-then-is_empty t c =
       };
     }
 
-pub push_without-returns-in_default : goal.push_without-returns-in_default
-push_without-returns-in_default t c =
+pub push_by_parts-returns-in_default : goal.push_by_parts-returns-in_default
+push_by_parts-returns-in_default t c =
     let g = c.args.meter.now in
     let same : c.simpler.new.meter ≡ g = grind arith in
     let none : HoldNowhere c.args.columns c.args.rows = rw c.in_default.is at c.in_ok-few.ensures.exact.0 in
@@ -83,8 +176,8 @@ push_without-returns-in_default t c =
       };
     }
 
-pub push_without-of-requires : goal.push_without-of-requires
-push_without-of-requires t c =
+pub push_by_parts-of-requires : goal.push_by_parts-of-requires
+push_by_parts-of-requires t c =
     let g = c.args.meter.now in
     let same : c.simpler.new.meter ≡ g = grind arith in
     let few = c.in-Some.few in
@@ -92,8 +185,8 @@ push_without-of-requires t c =
     let slice : c.as_slice-2.result.now ≡ few = grind arith in
     record { rows = rw (same, slice) is.proper }
 
-pub push_without-returns : goal.push_without-returns
-push_without-returns t c =
+pub push_by_parts-returns : goal.push_by_parts-returns
+push_by_parts-returns t c =
     let g = c.args.meter.now in
     let same : c.simpler.new.meter ≡ g = grind arith in
     let h = c.of.new.meter in
@@ -123,16 +216,17 @@ push_without-returns t c =
             let own = rw c.in-Some.is at (c.in_ok-few.ensures.tame.tame bits full room given).answer in
             let are : AreDifferences g c.args.columns bits few = record { proper = is.proper; normal = is.normal; differences = own } in
             let e = rw (same, read) at c.in_ok-parts.ensures in
-            let column = column_tame g c.args.columns bits col few low are h (Ok c.in_ok-parts.parts) full room e.tame in
+            let column = column_tame g c.args.columns bits col few low are h (Ok c.in_ok-parts.parts) full (omega (arith, room, inside)) e.tame in
             let head = difference_head g c.args.columns bits col few low are c.in_ok-parts.parts e.exact_column e.solved_column in
-            let rest = rw slice at (c.push_parts.ensures.tame.tame (bits + 1) (same_bits g h charged full) (omega arith) head) in
-            columns_tame g h k c.args.columns bits (length (others_of col cols)) (length cols) old new c.push_parts.result
-            (others_count col cols c.requires.distinct among) charged column.within.units rest;
+            let count = others_count col cols c.requires.distinct among in
+            let long = ap (λ (xs : List ℕ). length xs) slice in
+            let rest = rw slice at (c.push_parts.ensures.tame.tame (bits + 1) (same_bits g h charged full) (omega (arith, room, count, long)) head) in
+            columns_tame g h k c.args.columns bits (length (others_of col cols)) (length cols) old new c.push_parts.result count charged column.within.units rest;
       };
     }
 
-pub push_without-push_parts-requires : goal.push_without-push_parts-requires
-push_without-push_parts-requires t c =
+pub push_by_parts-push_parts-requires : goal.push_by_parts-push_parts-requires
+push_by_parts-push_parts-requires t c =
     let g = c.args.meter.now in
     let same : c.simpler.new.meter ≡ g = grind arith in
     let h = c.of.new.meter in
@@ -172,8 +266,8 @@ push_some-returns-then-branch-clause-exact t c =
     let nowhere : HoldNowhere c.args.columns c.args.rows = rw copied at (answer.0.0 (grind arith)) in
     (along_nowhere g c.args.columns c.args.cols.now c.args.rows c.args.lists.now.items nowhere, answer.1)
 
-pub push_without-returns-in_err-push_list-clause-tame : goal.push_without-returns-in_err-push_list-clause-tame
-push_without-returns-in_err-push_list-clause-tame t c = record {
+pub push_by_parts-returns-in_err-push_list-clause-tame : goal.push_by_parts-returns-in_err-push_list-clause-tame
+push_by_parts-returns-in_err-push_list-clause-tame t c = record {
   tame = λ bits full room given.
       let g = c.args.meter.now in
       let n = length c.args.cols.now in
@@ -182,8 +276,8 @@ push_without-returns-in_err-push_list-clause-tame t c = record {
       (λ _. AddsFewDifferences (bits + n) c.args.lists.now.items c.push_list.new.lists.items) (omega arith));
 }
 
-pub push_without-returns-in_err-few-clause-tame : goal.push_without-returns-in_err-few-clause-tame
-push_without-returns-in_err-few-clause-tame t c = record {
+pub push_by_parts-returns-in_err-few-clause-tame : goal.push_by_parts-returns-in_err-few-clause-tame
+push_by_parts-returns-in_err-few-clause-tame t c = record {
   tame = λ bits full room given.
       let g = c.args.meter.now in
       let n = length c.args.cols.now in
@@ -193,8 +287,8 @@ push_without-returns-in_err-few-clause-tame t c = record {
       (c.in_err-few.ensures.tame.tame bits full room given));
 }
 
-pub push_without-returns-in_err-left-clause-tame : goal.push_without-returns-in_err-left-clause-tame
-push_without-returns-in_err-left-clause-tame t c = record {
+pub push_by_parts-returns-in_err-left-clause-tame : goal.push_by_parts-returns-in_err-left-clause-tame
+push_by_parts-returns-in_err-left-clause-tame t c = record {
   tame = λ bits full room given.
       let g = c.args.meter.now in
       let n = length c.args.cols.now in
@@ -204,8 +298,8 @@ push_without-returns-in_err-left-clause-tame t c = record {
       (λ _. AddsFewDifferences (bits + n) c.args.lists.now.items c.args.lists.now.items) (let u = ap (λ (x : Gauge). x.units) same in omega arith));
 }
 
-pub push_without-returns-in_err-parts-clause-tame : goal.push_without-returns-in_err-parts-clause-tame
-push_without-returns-in_err-parts-clause-tame t c = record {
+pub push_by_parts-returns-in_err-parts-clause-tame : goal.push_by_parts-returns-in_err-parts-clause-tame
+push_by_parts-returns-in_err-parts-clause-tame t c = record {
   tame = λ bits full room given.
       let g = c.args.meter.now in
       let cols = c.args.cols.now in
@@ -222,7 +316,7 @@ push_without-returns-in_err-parts-clause-tame t c = record {
       let own = rw c.in-Some.is at (c.in_ok-few.ensures.tame.tame bits full room given).answer in
       let are : AreDifferences g columns bits few = record { proper = is.proper; normal = is.normal; differences = own } in
       let e = rw (same, read) at c.in_err-parts.ensures.tame in
-      let column = column_tame g columns bits col few low are c.of.new.meter (Err c.in_err-parts.field-0.0) full room e in
+      let column = column_tame g columns bits col few low are c.of.new.meter (Err c.in_err-parts.field-0.0) full (omega (arith, room, inside)) e in
       let p = err_from_is_err_and c.from_residual-in_err-parts.result c.from_residual-in_err-parts.ensures.1 in
       rw (p.1, p.2) (tame_cut (columns * columns) (n * (columns * columns)) g c.of.new.meter (λ _. Unit {0})
       (λ _. AddsFewDifferences (bits + n) c.args.lists.now.items c.args.lists.now.items) c.in_err-parts.field-0.0

@@ -44,10 +44,11 @@ returns t c =
       counted = e.counted;
       tame = record {
         tame = λ bits full room given_rows.
-            let own = (c.in_ok-short.ensures.tame.tame bits full room given_rows).answer in
-            let rest = e.tame.tame (bits + 1) full (omega (arith, low, room)) own in
-            solved_tame g k c.args.columns bits (length (others_of given.col cols)) (length cols) c.rows_without.result
-            (others_count given.col cols c.requires.distinct among) rest;
+            let some = is.among in
+            let own = (c.in_ok-short.ensures.tame.tame bits full (omega (arith, room, some)) given_rows).answer in
+            let count = others_count given.col cols c.requires.distinct among in
+            let rest = e.tame.tame (bits + 1) full (omega (arith, room, count)) own in
+            solved_tame g k c.args.columns bits (length (others_of given.col cols)) (length cols) c.rows_without.result count rest;
       };
     }
 
@@ -62,9 +63,11 @@ returns-in_err-left-clause-tame t c = record {
 pub returns-in_err-short-clause-tame : goal.returns-in_err-short-clause-tame
 returns-in_err-short-clause-tame t c = record {
   tame = λ bits full room given.
+      let is : IsGivenBy c.args.rows c.args.cols.now c.in-Some.given = grind arith in
+      let some = is.among in
       let p = err_from_is_err_and c.from_residual-in_err-short.result c.from_residual-in_err-short.ensures.1 in
       rw (p.1, p.2) (tame_cut 0 (length c.args.cols.now * (c.args.columns * c.args.columns)) c.args.meter.now c.substituted.new.meter
       (λ short. All (IsDifferenceRow (bits + 1)) short)
       (λ (lists : Vec (List Row) Global). AreFewDifferences (bits + length c.args.cols.now) lists.items)
-      c.in_err-short.field-0.0 (omega arith) (c.in_err-short.ensures.tame.tame bits full room given));
+      c.in_err-short.field-0.0 (omega arith) (c.in_err-short.ensures.tame.tame bits full (omega (arith, room, some)) given));
 }

@@ -56,7 +56,7 @@ column_out-returns-in_default t c =
             let slice : c.as_slice-2.result.now ≡ rows = grind arith in
             let e = rw slice at c.in_ok-parts.ensures in
             let are : AreDifferences g columns bits rows = record { proper = c.requires.rows; normal = c.requires.normal; differences = given } in
-            let column = column_tame g columns bits col rows inside are h (Ok parts) full room e.tame in
+            let column = column_tame g columns bits col rows inside are h (Ok parts) full (omega (arith, room, inside)) e.tame in
             let head = difference_head g columns bits col rows inside are parts e.exact_column e.solved_column in
             let spent = c.rest_is_empty.ensures.spent (c.take_head.ensures.alone head.head head.alone) in
             tame_after (columns * columns) 0 (columns * (columns * columns)) g h c.rest_is_empty.new.meter (λ _. Unit {0}) (λ _. Unit {0}) c.rest_is_empty.result
@@ -106,7 +106,7 @@ column_out-returns-then-not-branch t c =
             let slice : c.as_slice-2.result.now ≡ rows = grind arith in
             let e = rw slice at c.in_ok-parts.ensures in
             let are : AreDifferences g columns bits rows = record { proper = c.requires.rows; normal = c.requires.normal; differences = given } in
-            let column = column_tame g columns bits col rows inside are h (Ok parts) full room e.tame in
+            let column = column_tame g columns bits col rows inside are h (Ok parts) full (omega (arith, room, inside)) e.tame in
             let left = difference_head g columns bits col rows inside are parts e.exact_column e.solved_column in
             let taken : left.head ≡ Some head = head_of left.head head parts c.take_head.result left.alone c.take_head.ensures.head (grind arith) in
             let part = c.in_ok-hold_nowhere.ensures.tame.tame (bits + 1) (same_bits g h charged full) (omega arith) (rw taken at left.rows) in
@@ -162,7 +162,7 @@ column_out-returns t c =
             let slice : c.as_slice-2.result.now ≡ rows = grind arith in
             let e = rw slice at c.in_ok-parts.ensures in
             let are : AreDifferences g columns bits rows = record { proper = c.requires.rows; normal = c.requires.normal; differences = given } in
-            let column = column_tame g columns bits col rows inside are h (Ok parts) full room e.tame in
+            let column = column_tame g columns bits col rows inside are h (Ok parts) full (omega (arith, room, inside)) e.tame in
             let left = difference_head g columns bits col rows inside are parts e.exact_column e.solved_column in
             let taken : left.head ≡ Some head = head_of left.head head parts c.take_head.result left.alone c.take_head.ensures.head (grind arith) in
             let part = c.in_ok-hold_nowhere.ensures.tame.tame (bits + 1) (same_bits g h charged full) (omega arith) (rw taken at left.rows) in
@@ -302,7 +302,7 @@ column_out-returns-in_err-parts-clause-tame t c = record {
       let inside : col < columns = grind arith in
       let slice : c.as_slice-2.result.now ≡ rows = grind arith in
       let are : AreDifferences g columns bits rows = record { proper = c.requires.rows; normal = c.requires.normal; differences = given } in
-      let column = column_tame g columns bits col rows inside are c.of.new.meter (Err c.in_err-parts.field-0.0) full room (rw slice at c.in_err-parts.ensures.tame) in
+      let column = column_tame g columns bits col rows inside are c.of.new.meter (Err c.in_err-parts.field-0.0) full (omega (arith, room, inside)) (rw slice at c.in_err-parts.ensures.tame) in
       let p = err_from_is_err_and c.from_residual.result c.from_residual.ensures.1 in
       rw (p.1, p.2) (tame_cut (columns * columns) (columns * (columns * columns)) g c.of.new.meter (λ _. Unit {0}) (λ _. Unit {0}) c.in_err-parts.field-0.0
       (some_cube columns (omega arith)) column);
@@ -323,7 +323,7 @@ column_out-returns-in_err-hold_nowhere-clause-tame t c = record {
       let slice : c.as_slice-2.result.now ≡ rows = grind arith in
       let e = rw slice at c.in_ok-parts.ensures in
       let are : AreDifferences g columns bits rows = record { proper = c.requires.rows; normal = c.requires.normal; differences = given } in
-      let column = column_tame g columns bits col rows inside are h (Ok parts) full room e.tame in
+      let column = column_tame g columns bits col rows inside are h (Ok parts) full (omega (arith, room, inside)) e.tame in
       let left = difference_head g columns bits col rows inside are parts e.exact_column e.solved_column in
       let taken : left.head ≡ Some head = head_of left.head head parts c.take_head.result left.alone c.take_head.ensures.head (grind arith) in
       let part = c.in_err-hold_nowhere.ensures.tame.tame (bits + 1) (same_bits g h charged full) (omega arith) (rw taken at left.rows) in

@@ -2,7 +2,7 @@ use Rattle.std.proofs.Common.{◌≡◌, ◌*◌, [], arith}
 use Rattle.std.proofs.lemmas.Result.{err_from_is_err_and}
 use Rattle.isl_ledger.proofs.AnsweredLaws.{tame_more}
 use Rattle.isl_elim.proofs.TameLaws.{tame_ok, tame_cut, cube_more, some_cubes}
-use Rattle.isl_elim.proofs.TameSystems.{size_of_one, plain_of_one, room_left}
+use Rattle.isl_elim.proofs.TameSystems.{plain_of_one, room_left}
 use Rattle.isl_meter.specs.Gauge.{IsCharged, IsCutBy}
 use Rattle.isl_piece.specs.System.{HoldsSystem, free_columns}
 use Rattle.isl_simpler.specs.Emptiness.{HoldNowhere}
@@ -31,17 +31,17 @@ returns-in-Some-clause-exact c =
     decided (HoldNowhere system.columns rows) (IsNowhere (free_columns system) (HoldsSystem system)) (IsCharged h k) (IsCutBy h k) c.hold_nowhere.result (opened_nowhere g system rows are) c.hold_nowhere.ensures.exact
 
 pub returns-then-is_empty-clause-tame : goal.returns-then-is_empty-clause-tame
-returns-then-is_empty-clause-tame c = λ size full room of.
+returns-then-is_empty-clause-tame c = λ size full room of normal.
     let s = c.args.system.now in
     let one : s.columns ≡ 1 = grind arith in
     let plain = plain_of_one size s of in
-    let narrow = (size_of_one size s of).narrow in
-    let own = (c.column_nowhere.ensures.tame plain.normal).tame size.bits full (omega arith) plain.rows in
+    let narrow = of.rows.narrow in
+    let own = (c.column_nowhere.ensures.tame (normal one)).tame size.bits full (omega arith) plain.rows in
     tame_more 1 (size.columns * (size.columns * size.columns)) c.args.meter.now c.column_nowhere.new.meter (λ _. Unit {0}) (λ _. Unit {0})
     c.column_nowhere.result (some_cubes size.columns (omega arith)) (λ value q. q) own
 
 pub returns-in_err-opened-clause-tame : goal.returns-in_err-opened-clause-tame
-returns-in_err-opened-clause-tame c = λ size full room of.
+returns-in_err-opened-clause-tame c = λ size full room of normal.
     let s = c.args.system.now in
     let own = c.in_err-opened.ensures.tame.tame size.bits full (room_left size s of room) (plain_of_one size s of) in
     let p = err_from_is_err_and c.from_residual.result c.from_residual.ensures.1 in
@@ -49,18 +49,18 @@ returns-in_err-opened-clause-tame c = λ size full room of.
     c.in_err-opened.field-0.0 (omega arith) own)
 
 pub returns-in-None-clause-tame : goal.returns-in-None-clause-tame
-returns-in-None-clause-tame c = λ size full room of.
+returns-in-None-clause-tame c = λ size full room of normal.
     let s = c.args.system.now in
     let own = c.in_ok-opened.ensures.tame.tame size.bits full (room_left size s of room) (plain_of_one size s of) in
     tame_ok (size.columns * (size.columns * size.columns)) c.args.meter.now c.opened.new.meter (λ _. Unit {0}) _
     (let u = own.within.units in omega arith) tt
 
 pub returns-in-Some-clause-tame : goal.returns-in-Some-clause-tame
-returns-in-Some-clause-tame c = λ size full room of.
+returns-in-Some-clause-tame c = λ size full room of normal.
     let s = c.args.system.now in
     let same : c.opened.new.meter ≡ c.args.meter.now = c.in_ok-opened.ensures.exact.1 in
     let rest = room_left size s of room in
     let own = (c.in_ok-opened.ensures.tame.tame size.bits full rest (plain_of_one size s of)).answer in
     let tested = (rw same at c.hold_nowhere.ensures.tame).tame size.bits full rest (rw c.in-Some.is at own) in
     tame_more (s.columns * (s.columns * s.columns)) (size.columns * (size.columns * size.columns)) c.args.meter.now c.hold_nowhere.new.meter
-    (λ _. Unit {0}) (λ _. Unit {0}) c.hold_nowhere.result (cube_more s.columns size.columns (size_of_one size s of).narrow) (λ value q. q) tested
+    (λ _. Unit {0}) (λ _. Unit {0}) c.hold_nowhere.result (cube_more s.columns size.columns of.rows.narrow) (λ value q. q) tested

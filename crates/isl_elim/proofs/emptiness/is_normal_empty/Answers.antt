@@ -2,7 +2,7 @@ use Rattle.std.proofs.Common.{◌≡◌, ◌*◌, [], arith, refl}
 use Rattle.std.proofs.lemmas.Result.{err_from_is_err_and}
 use Rattle.isl_ledger.proofs.AnsweredLaws.{tame_more}
 use Rattle.isl_elim.proofs.TameLaws.{tame_memory, cube_more}
-use Rattle.isl_elim.proofs.TameSystems.{size_of_one, plain_of_one, room_left}
+use Rattle.isl_elim.proofs.TameSystems.{plain_of_one, room_left}
 use Rattle.isl_meter.specs.Gauge.{IsCharged, IsCutBy}
 use Rattle.isl_piece.specs.System.{HoldsSystem, free_columns}
 use Rattle.isl_simpler.specs.Emptiness.{HoldNowhere}
@@ -37,4 +37,14 @@ returns-clause-tame c = λ size full room of.
     let same : c.in_ok-rows.rows ≡ s.rows = grind arith in
     let own = (c.hold_nowhere.ensures.tame).tame size.bits full (room_left size s of room) (rw same (plain_of_one size s of).rows) in
     tame_more (s.columns * (s.columns * s.columns)) (size.columns * (size.columns * size.columns)) c.args.meter.now c.hold_nowhere.new.meter
-    (λ _. Unit {0}) (λ _. Unit {0}) c.hold_nowhere.result (cube_more s.columns size.columns (size_of_one size s of).narrow) (λ value q. q) own
+    (λ _. Unit {0}) (λ _. Unit {0}) c.hold_nowhere.result (cube_more s.columns size.columns of.rows.narrow) (λ value q. q) own
+
+pub returns-then-system-eq1-clause-tame : goal.returns-then-system-eq1-clause-tame
+returns-then-system-eq1-clause-tame c = λ size full room of. c.is_empty-then-system-eq1.ensures.tame size full room of (λ one. c.requires.normal)
+
+pub returns-then-system-eq1-clause-one : goal.returns-then-system-eq1-clause-one
+returns-then-system-eq1-clause-one c = λ plain one. record {
+  units = c.is_empty-then-system-eq1.ensures.units plain one;
+  equality = c.is_empty-then-system-eq1.ensures.equality plain one;
+  magnitude = c.is_empty-then-system-eq1.ensures.magnitude plain one;
+}

@@ -1,6 +1,7 @@
 use Rattle.std.proofs.Common.{◌∷◌, [], ◌*◌, refl, arith, Vec, Global}
 use Rattle.isl_ledger.specs.Work.{AreOfSize, drop_size}
 use Rattle.isl_ledger.proofs.AnsweredLaws.{tame_more}
+use Rattle.isl_ledger.proofs.SizeLaws.{has_size, one_system}
 use Rattle.isl_piece.specs.declared.system.System.{System}
 use Rattle.isl_elim.specs.Elimination.{IsProjection, IsProjectionAlong}
 use Rattle.isl_elim.proofs.ProjectionLaws.{along_one, if_ok}
@@ -23,4 +24,5 @@ pub returns-clause-tame : goal.returns-clause-tame
 returns-clause-tame c = λ size full room of.
     tame_more (1 * (size.columns * size.columns)) (size.columns * size.columns) c.args.meter.now c.eliminate_all.new.meter
     (λ (systems : Vec System Global). AreOfSize (drop_size 1 size) systems.items) (λ (systems : Vec System Global). AreOfSize (drop_size 1 size) systems.items)
-    c.eliminate_all.result (omega arith) (λ systems a. a) (c.eliminate_all.ensures.tame size full room of)
+    c.eliminate_all.result (omega arith) (λ systems a. a) (c.eliminate_all.ensures.tame size full room (has_size size c.args.system.now of)
+    (λ one. (one_system size c.args.system.now of).normal))

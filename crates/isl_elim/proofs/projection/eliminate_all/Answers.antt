@@ -1,11 +1,12 @@
 use Rattle.std.proofs.Common.{◌≡◌, ◌-◌, ◌+◌, ◌*◌, ◌∙◌, map, length, arith, Vec, Global, List}
 use Rattle.std.proofs.lemmas.Result.{err_from_is_err_and}
+use Rattle.isl_meter.specs.declared.Cut.TheVariants.{Overflow}
 use Rattle.isl_piece.specs.declared.row.Row.{Row}
 use Rattle.isl_piece.specs.declared.system.System.{System}
 use Rattle.isl_ledger.specs.Work.{AreOfSize, drop_size}
 use Rattle.isl_elim.specs.Tame.{AreFewDifferences}
 use Rattle.isl_elim.proofs.TameLaws.{tame_ok, tame_memory, tame_cut}
-use Rattle.isl_elim.proofs.TameSystems.{plain_of_one, gone_plain, room_left, units_left, size_dropped}
+use Rattle.isl_elim.proofs.TameSystems.{plain_of_one, gone_plain, units_left, size_dropped}
 use Rattle.isl_shadows.specs.Exact.{exact_rows}
 use Rattle.isl_shadows.specs.Solved.{solved_rows}
 use Rattle.isl_piece.specs.System.{free_columns}
@@ -110,6 +111,22 @@ returns-in_err-lists-clause-units c = λ col e none.
     let gone : c.as_slice-2.result.now ≡ with_dependents s cols = grind arith in
     c.lists_left.ensures.units col (gone ∙ gone_one s cols col e none) (low_one s cols col e c.requires.cols_in)
 
+pub returns-in_err-lists-clause-equality : goal.returns-in_err-lists-clause-equality
+returns-in_err-lists-clause-equality c = λ col e none.
+    let s = c.args.system.now in
+    let cols = c.args.cols.now in
+    let gone : c.as_slice-2.result.now ≡ with_dependents s cols = grind arith in
+    c.lists_left.ensures.equality col (gone ∙ gone_one s cols col e none) (low_one s cols col e c.requires.cols_in)
+
+pub returns-in_err-lists-clause-magnitude : goal.returns-in_err-lists-clause-magnitude
+returns-in_err-lists-clause-magnitude c = λ col e none full small one.
+    let s = c.args.system.now in
+    let cols = c.args.cols.now in
+    let gone : c.as_slice-2.result.now ≡ with_dependents s cols = grind arith in
+    let p = err_from_is_err_and c.from_residual-in_err-lists.result c.from_residual-in_err-lists.ensures.1 in
+    let spared = c.in_err-lists.ensures.magnitude col (gone ∙ gone_one s cols col e none) (low_one s cols col e c.requires.cols_in) full small one in
+    rw (p.1, p.2) (λ passed. spared (let cut : c.in_err-lists.field-0.0 ≡ Overflow = cc in cc))
+
 pub returns-in_err-systems-clause-units : goal.returns-in_err-systems-clause-units
 returns-in_err-systems-clause-units c = λ col e none.
     let s = c.args.system.now in
@@ -139,27 +156,27 @@ returns-clause-equality c = λ col e none.
     c.lists_left.ensures.equality col (gone ∙ gone_one s cols col e none) (low_one s cols col e c.requires.cols_in)
 
 pub returns-in_err-gone-clause-tame : goal.returns-in_err-gone-clause-tame
-returns-in_err-gone-clause-tame c = λ size full room of.
+returns-in_err-gone-clause-tame c = λ size full room of normal.
     let cols = c.args.cols.now in
     let p = err_from_is_err_and c.from_residual.result c.from_residual.ensures.1 in
     rw (p.1, p.2) (tame_memory (length cols * (size.columns * size.columns)) c.args.meter.now c.args.meter.now
     (λ (systems : Vec System Global). AreOfSize (drop_size (length cols) size) systems.items) (omega arith))
 
 pub returns-in_err-left-clause-tame : goal.returns-in_err-left-clause-tame
-returns-in_err-left-clause-tame c = λ size full room of.
+returns-in_err-left-clause-tame c = λ size full room of normal.
     let cols = c.args.cols.now in
     let p = err_from_is_err_and c.from_residual-in_err-left.result c.from_residual-in_err-left.ensures.1 in
     rw (p.1, p.2) (tame_memory (length cols * (size.columns * size.columns)) c.args.meter.now c.args.meter.now
     (λ (systems : Vec System Global). AreOfSize (drop_size (length cols) size) systems.items) (omega arith))
 
 pub returns-in_err-lists-clause-tame : goal.returns-in_err-lists-clause-tame
-returns-in_err-lists-clause-tame c = λ size full room of.
+returns-in_err-lists-clause-tame c = λ size full room of normal.
     let s = c.args.system.now in
     let cols = c.args.cols.now in
     let gone : c.as_slice-2.result.now ≡ with_dependents s cols = grind arith in
     let plain = plain_of_one size s of in
     let same = gone ∙ gone_plain s cols plain.undefined in
-    let own = (rw same at c.in_err-lists.ensures.tame).tame size.bits full (room_left size s of room) plain in
+    let own = ((rw same at c.in_err-lists.ensures.tame) normal).tame size.bits full room plain in
     let p = err_from_is_err_and c.from_residual-in_err-lists.result c.from_residual-in_err-lists.ensures.1 in
     rw (p.1, p.2) (tame_cut (length cols * (s.columns * s.columns)) (length cols * (size.columns * size.columns)) c.args.meter.now
     c.lists_left.new.meter
@@ -168,20 +185,20 @@ returns-in_err-lists-clause-tame c = λ size full room of.
     (units_left size s (length cols) of) own)
 
 pub returns-in_err-systems-clause-tame : goal.returns-in_err-systems-clause-tame
-returns-in_err-systems-clause-tame c = λ size full room of.
+returns-in_err-systems-clause-tame c = λ size full room of normal.
     let s = c.args.system.now in
     let cols = c.args.cols.now in
     let gone : c.as_slice-2.result.now ≡ with_dependents s cols = grind arith in
     let plain = plain_of_one size s of in
     let same = gone ∙ gone_plain s cols plain.undefined in
-    let own = (rw same at c.in_ok-lists.ensures.tame).tame size.bits full (room_left size s of room) plain in
+    let own = ((rw same at c.in_ok-lists.ensures.tame) normal).tame size.bits full room plain in
     let p = err_from_is_err_and c.from_residual-in_err-systems.result c.from_residual-in_err-systems.ensures.1 in
     rw (p.1, p.2) (tame_memory (length cols * (size.columns * size.columns)) c.args.meter.now c.lists_left.new.meter
     (λ (systems : Vec System Global). AreOfSize (drop_size (length cols) size) systems.items)
     (let u = own.within.units in let v = units_left size s (length cols) of in omega arith))
 
 pub returns-clause-tame : goal.returns-clause-tame
-returns-clause-tame c = λ size full room of.
+returns-clause-tame c = λ size full room of normal.
     let g = c.args.meter.now in
     let s = c.args.system.now in
     let cols = c.args.cols.now in
@@ -194,7 +211,7 @@ returns-clause-tame c = λ size full room of.
     c.requires.cols_in kept columns c.in_ok-left.ensures.within added are in
     let plain = plain_of_one size s of in
     let same = gone ∙ gone_plain s cols plain.undefined in
-    let own = (rw same at c.in_ok-lists.ensures.tame).tame size.bits full (room_left size s of room) plain in
+    let own = ((rw same at c.in_ok-lists.ensures.tame) normal).tame size.bits full room plain in
     tame_ok (length cols * (size.columns * size.columns)) g c.lists_left.new.meter
     (λ (systems : Vec System Global). AreOfSize (drop_size (length cols) size) systems.items) c.in_ok-systems.systems
     (let u = own.within.units in let v = units_left size s (length cols) of in omega arith)

@@ -34,7 +34,7 @@ returns-then-gone-free-clause-solved_column c = λ col e low equality.
     solved_same (λ (v : Vec (List Row) Global). v.items) rows (get_or c.args.gone.now 0 0) col c.eliminate_rows.result same (rw slice at c.eliminate_rows.ensures.solved_column) equality
 
 pub returns-then-gone-free-clause-tame : goal.returns-then-gone-free-clause-tame
-returns-then-gone-free-clause-tame c = record {
+returns-then-gone-free-clause-tame c = λ normal. record {
   tame = λ bits full room given.
       let s = c.args.system.now in
       let gone = c.args.gone.now in
@@ -45,11 +45,11 @@ returns-then-gone-free-clause-tame c = record {
       let inside : col < s.columns = omega arith in
       let e = rw slice at c.eliminate_rows.ensures in
       one_column_tame (λ (v : Vec (List Row) Global). v.items) c.args.meter.now c.eliminate_rows.new.meter bits s.columns col (length gone) s.rows
-      c.eliminate_rows.result inside one full room (plain_differences c.args.meter.now s bits c.requires.well_formed given) e.tame e.exact_column e.solved_column;
+      c.eliminate_rows.result inside one full room (plain_differences c.args.meter.now s bits c.requires.well_formed given (normal one)) e.tame e.exact_column e.solved_column;
 }
 
 pub returns-in_err-rows-clause-tame : goal.returns-in_err-rows-clause-tame
-returns-in_err-rows-clause-tame c = record {
+returns-in_err-rows-clause-tame c = λ normal. record {
   tame = λ bits full room given.
       let s = c.args.system.now in
       let gone = c.args.gone.now in
@@ -60,7 +60,7 @@ returns-in_err-rows-clause-tame c = record {
 }
 
 pub returns-clause-tame : goal.returns-clause-tame
-returns-clause-tame c = record {
+returns-clause-tame c = λ normal. record {
   tame = λ bits full room given.
       let s = c.args.system.now in
       let same : c.opened_rows.new.meter ≡ c.args.meter.now = c.in_ok-rows.ensures.exact.1 in

@@ -58,7 +58,7 @@ sample_columns-returns-in-None t c =
             let slice : c.as_slice-2.result.now ≡ rows = grind arith in
             let e = rw slice at c.in_ok-parts.ensures in
             let are : AreDifferences g columns bits rows = record { proper = c.requires.rows; normal = c.requires.normal; differences = given } in
-            let column = column_tame g columns bits col rows inside are h (Ok parts) full room e.tame in
+            let column = column_tame g columns bits col rows inside are h (Ok parts) full (omega (arith, room, inside)) e.tame in
             let head = difference_head g columns bits col rows inside are parts e.exact_column e.solved_column in
             let part = c.in_ok-sample_parts.ensures.tame.tame (bits + 1) (same_bits g h first full) (omega arith) head in
             tame_ok (columns * (columns * columns)) g k _ _
@@ -207,7 +207,7 @@ sample_columns-returns-in_err-parts-clause-tame t c = record {
       let inside : col < columns = grind arith in
       let slice : c.as_slice-2.result.now ≡ rows = grind arith in
       let are : AreDifferences g columns bits rows = record { proper = c.requires.rows; normal = c.requires.normal; differences = given } in
-      let column = column_tame g columns bits col rows inside are h (Err c.in_err-parts.field-0.0) full room (rw slice at c.in_err-parts.ensures.tame) in
+      let column = column_tame g columns bits col rows inside are h (Err c.in_err-parts.field-0.0) full (omega (arith, room, inside)) (rw slice at c.in_err-parts.ensures.tame) in
       let p = err_from_is_err_and c.from_residual-in_err-parts.result c.from_residual-in_err-parts.ensures.1 in
       rw (p.1, p.2) (tame_cut (columns * columns) (columns * (columns * columns)) g h (λ _. Unit {0}) _ c.in_err-parts.field-0.0
       (some_cube columns (omega arith)) column);
@@ -227,7 +227,7 @@ sample_columns-returns-in_err-sample_parts-clause-tame t c = record {
       let parts = c.in_ok-parts.parts in
       let charged : IsCharged g h = grind arith in
       let e = rw slice at c.in_ok-parts.ensures in
-      let column = column_tame g columns bits col rows inside are h (Ok parts) full room e.tame in
+      let column = column_tame g columns bits col rows inside are h (Ok parts) full (omega (arith, room, inside)) e.tame in
       let head = difference_head g columns bits col rows inside are parts e.exact_column e.solved_column in
       let part = c.in_err-sample_parts.ensures.tame.tame (bits + 1) (same_bits g h charged full) (omega arith) head in
       let p = err_from_is_err_and c.from_residual-in_err-sample_parts.result c.from_residual-in_err-sample_parts.ensures.1 in
@@ -249,7 +249,7 @@ sample_columns-returns-in_err-whole-in-Some-clause-tame t c = record {
       let parts = c.in_ok-parts.parts in
       let charged : IsCharged g h = grind arith in
       let e = rw slice at c.in_ok-parts.ensures in
-      let column = column_tame g columns bits col rows inside are h (Ok parts) full room e.tame in
+      let column = column_tame g columns bits col rows inside are h (Ok parts) full (omega (arith, room, inside)) e.tame in
       let head = difference_head g columns bits col rows inside are parts e.exact_column e.solved_column in
       let k = c.sample_parts.new.meter in
       let point = c.in-Some.point.items in
@@ -282,7 +282,7 @@ sample_columns-returns-in_ok-whole-in-Some-clause-tame t c = record {
       let parts = c.in_ok-parts.parts in
       let charged : IsCharged g h = grind arith in
       let e = rw slice at c.in_ok-parts.ensures in
-      let column = column_tame g columns bits col rows inside are h (Ok parts) full room e.tame in
+      let column = column_tame g columns bits col rows inside are h (Ok parts) full (omega (arith, room, inside)) e.tame in
       let head = difference_head g columns bits col rows inside are parts e.exact_column e.solved_column in
       let k = c.sample_parts.new.meter in
       let point = c.in-Some.point.items in

@@ -1,17 +1,21 @@
-use Rattle.std.proofs.Common.{◌≡◌, ◌≢◌, ◌⊎◌, ◌+◌, ◌<◌, ◌≤◌, ◌∷◌, [], ap, arith, get_or, length, subst, sym, List, ℤ}
+use Rattle.std.proofs.Common.{◌≡◌, ◌≢◌, ◌⊎◌, ◌∙◌, ◌+◌, ◌*◌, ◌<◌, ◌≤◌, ◌∷◌, [], ap, arith, get_or, length, refl, subst, sym, take, List, ℤ}
 use Rattle.std.specs.List.{All}
 use Rattle.std.proofs.lemmas.Grind.{common_steps}
+use Rattle.std.proofs.lemmas.Result.{err_from_is_err_and}
 use Rattle.std.proofs.lemmas.List.{take_all}
-use Rattle.std.proofs.lemmas.List.Elements.{All-more}
+use Rattle.std.proofs.lemmas.List.Elements.{All-more, All-nil}
 use Rattle.isl_meter.specs.Gauge.{Gauge}
-use Rattle.isl_meter.proofs.CutLemmas.{IsCharged_trans}
+use Rattle.isl_meter.proofs.CutLemmas.{IsCharged_refl, IsCharged_trans}
 use Rattle.isl_piece.specs.declared.row.Row.{Row}
 use Rattle.isl_piece.specs.declared.row.RowKind.{RowKind}
 use Rattle.isl_piece.specs.declared.row.RowKind.TheVariants.{Zero, AtLeast}
 use Rattle.isl_piece.specs.Row.{HoldsRow, IsRowWithin, IsWellFormed}
 use Rattle.isl_piece.proofs.RowMagnitudes.{row_within_kept}
+use Rattle.isl_ledger.specs.Difference.{IsDifferenceRow}
+use Rattle.isl_difference.proofs.TameLaws.{taken_next, taken_turn, tame_cut, tame_ok}
 use Rattle.isl_span.specs.Chain.{IsNoEquation}
 use Rattle.isl_span.specs.Points.{IsPoint}
+use Rattle.isl_span.specs.Work.{test_units}
 use Rattle.isl_span.proofs.CallLaws.{rows_formed}
 use Rattle.isl_span.proofs.ChainLaws.{equation_later}
 use Rattle.isl_span.proofs.PointLaws.{over_later}
@@ -58,6 +62,16 @@ equation_by-requires-clause-holds c point holds =
     let at : row ≡ get_or rows i row = subst (λ (rs : List Row). row ≡ get_or rs i row) c.as_slice-row-items.ensures c.row-item.is in
     subst (λ (r : Row). HoldsRow r point) (sym at) (plain_holds c.args.system.now point c.requires.plain holds i row low)
 
+pub loop-row-init : goal.loop-row-init
+loop-row-init c =
+    let g = c.args.meter.now in
+    let P : List ℤ → Type 0 = IsPoint (c.args.last + 1) (c.args.system.now ∷ []) in
+    record {
+      none = All-nil (λ r. r.kind ≡ c.args.kind → IsNoEquation c.args.last P r);
+      charged = IsCharged_refl g g refl;
+      tame = λ bits limit room d. omega arith;
+    }
+
 pub loop-row-preserved-then-ne : goal.loop-row-preserved-then-ne
 loop-row-preserved-then-ne c =
     let rows = c.args.system.now.rows in
@@ -71,6 +85,9 @@ loop-row-preserved-then-ne c =
     record {
       none = All-more Q rows i row low c.loop-row.invariant.none (subst Q at (λ same. absurd (other same)));
       charged = c.loop-row.invariant.charged;
+      tame = λ bits limit room d.
+          taken_next i rows (test_units (c.args.last + 1)) c.args.meter.now c.loop-row.meter c.loop-row.meter low
+          (c.loop-row.invariant.tame bits limit room d) (omega arith);
     }
 
 pub loop-row-preserved : goal.loop-row-preserved
@@ -87,6 +104,12 @@ loop-row-preserved c =
       none = All-more Q rows i row low c.loop-row.invariant.none (subst Q at (λ same. told));
       charged = IsCharged_trans c.args.meter.now c.loop-row.meter c.equation_by.new.meter c.loop-row.invariant.charged
           c.in_ok-form.ensures.meter;
+      tame = λ bits limit room d.
+          let limit_then = ap (λ (x : Gauge). x.bits) c.loop-row.invariant.charged.same ∙ limit in
+          let own = subst (IsDifferenceRow bits) (sym at) (d.rows i row low) in
+          let made = c.in_ok-form.ensures.tame bits limit_then room d own in
+          taken_next i rows (test_units (c.args.last + 1)) c.args.meter.now c.loop-row.meter c.equation_by.new.meter low
+          (c.loop-row.invariant.tame bits limit room d) made.within.units;
     }
 
 pub returns-in-Some-clause-exact : goal.returns-in-Some-clause-exact
@@ -102,3 +125,47 @@ returns-clause-exact c =
     let end : length rows ≤ c.loop-row.row-index = grind (arith, common_steps) in
     subst (All (λ r. r.kind ≡ c.args.kind → IsNoEquation c.args.last P r)) (take_all c.loop-row.row-index rows end)
     c.loop-row.invariant.none
+
+-- ---- of difference constraints
+pub returns-in_err-form-clause-tame : goal.returns-in_err-form-clause-tame
+returns-in_err-form-clause-tame c = λ bits limit room d.
+    let g = c.args.meter.now in
+    let h = c.loop-row.meter in
+    let t = test_units (c.args.last + 1) in
+    let rows = c.args.system.now.rows in
+    let row : Row = c.row-item.result in
+    let i = c.loop-row.row-index in
+    let low : i < length rows = grind (arith, common_steps) in
+    let at : row ≡ get_or rows i row = subst (λ (rs : List Row). row ≡ get_or rs i row) c.as_slice-row-items.ensures c.row-item.is in
+    let before = c.loop-row.invariant.tame bits limit room d in
+    let limit_then = ap (λ (x : Gauge). x.bits) c.loop-row.invariant.charged.same ∙ limit in
+    let own = subst (IsDifferenceRow bits) (sym at) (d.rows i row low) in
+    let p = err_from_is_err_and c.from_residual.result c.from_residual.ensures.1 in
+    rw (p.1, p.2) (tame_cut (length (take i rows) * t) t (length rows * t) g h c.equation_by.new.meter _ _ c.in_err-form.field-0.0
+    c.loop-row.invariant.charged before (taken_turn i rows t low) (c.in_err-form.ensures.tame bits limit_then room d own))
+
+pub returns-in-Some-clause-tame : goal.returns-in-Some-clause-tame
+returns-in-Some-clause-tame c = λ bits limit room d.
+    let g = c.args.meter.now in
+    let h = c.loop-row.meter in
+    let t = test_units (c.args.last + 1) in
+    let rows = c.args.system.now.rows in
+    let row : Row = c.row-item.result in
+    let i = c.loop-row.row-index in
+    let low : i < length rows = grind (arith, common_steps) in
+    let at : row ≡ get_or rows i row = subst (λ (rs : List Row). row ≡ get_or rs i row) c.as_slice-row-items.ensures c.row-item.is in
+    let before = c.loop-row.invariant.tame bits limit room d in
+    let limit_then = ap (λ (x : Gauge). x.bits) c.loop-row.invariant.charged.same ∙ limit in
+    let own = subst (IsDifferenceRow bits) (sym at) (d.rows i row low) in
+    let made = c.in_ok-form.ensures.tame bits limit_then room d own in
+    let used = made.within.units in
+    let most = taken_turn i rows t low in
+    tame_ok (length rows * t) g c.equation_by.new.meter _ _ (omega (arith, before, used, most)) tt
+
+pub returns-clause-tame : goal.returns-clause-tame
+returns-clause-tame c = λ bits limit room d.
+    let rows = c.args.system.now.rows in
+    let i = c.loop-row.row-index in
+    let end : length rows ≤ i = grind (arith, common_steps) in
+    tame_ok (length rows * test_units (c.args.last + 1)) c.args.meter.now c.loop-row.meter _ _
+    (rw (take_all i rows end) at (c.loop-row.invariant.tame bits limit room d)) tt

@@ -1,13 +1,14 @@
-use Rattle.std.proofs.Common.{◌≡◌, ◌∙◌, ◌+◌, ◌∷◌, [], ap, arith, get_or, length, subst, sym, List, ℕ, false, true}
+use Rattle.std.proofs.Common.{◌≡◌, ◌∙◌, ◌+◌, ap, arith, get_or, length, subst, sym, List, false}
 use Rattle.std.proofs.lemmas.Bool.{false≢true}
 use Rattle.std.proofs.lemmas.Grind.{common_steps}
 use Rattle.std.proofs.lemmas.List.{nil_from_length}
 use Rattle.std.specs.Prelude.{IfOk}
 use Rattle.std.specs.List.{All}
 use Rattle.isl_piece.specs.declared.definition.Definition.{Definition}
-use Rattle.isl_piece.specs.declared.row.Row.{Row}
 use Rattle.isl_piece.specs.declared.system.System.{System}
+use Rattle.isl_difference.proofs.TameLaws.{tame_ok}
 use Rattle.isl_span.specs.Chain.{IsLinkOf, IsPlainChain, IsSmall}
+use Rattle.isl_span.specs.Work.{link_units}
 use Rattle.isl_span.proofs.CallLaws.{alone_at, are_small_all}
 use Rattle.isl_span.proofs.ChainLaws.{first_over}
 use Rattle.isl_span.proofs.last.link_of.Goals as goal
@@ -55,3 +56,22 @@ returns-clause-seen c bits s is plain =
     let t : System = c.index-systems-0.result in
     let same : t ≡ s = c.index-systems-0.is ∙ ap (λ (l : List System). get_or l 0 t) is in
     c.link_in.ensures.seen bits (subst (IsPlainChain (c.args.last + 1) bits) (sym same) plain)
+
+-- ---- of difference constraints
+pub returns-then-systems-ne1-clause-tame : goal.returns-then-systems-ne1-clause-tame
+returns-then-systems-ne1-clause-tame c = λ bits s limit room is plain.
+    tame_ok (link_units (c.args.last + 1)) c.args.meter.now c.args.meter.now _ _ (omega arith) tt
+
+pub returns-then-defined-gt0-clause-tame : goal.returns-then-defined-gt0-clause-tame
+returns-then-defined-gt0-clause-tame c = λ bits s limit room is plain.
+    tame_ok (link_units (c.args.last + 1)) c.args.meter.now c.args.meter.now _ _ (omega arith) tt
+
+pub returns-then-not-are_small-clause-tame : goal.returns-then-not-are_small-clause-tame
+returns-then-not-are_small-clause-tame c = λ bits s limit room is plain.
+    tame_ok (link_units (c.args.last + 1)) c.args.meter.now c.args.meter.now _ _ (omega arith) tt
+
+pub returns-clause-tame : goal.returns-clause-tame
+returns-clause-tame c = λ bits s limit room is plain.
+    let t : System = c.index-systems-0.result in
+    let same : t ≡ s = c.index-systems-0.is ∙ ap (λ (l : List System). get_or l 0 t) is in
+    c.link_in.ensures.tame bits limit room (subst (IsPlainChain (c.args.last + 1) bits) (sym same) plain)

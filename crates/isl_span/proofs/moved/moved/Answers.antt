@@ -1,15 +1,18 @@
-use Rattle.std.proofs.Common.{◌≡◌, ◌∙◌, ◌+◌, ◌<◌, ◌≤◌, ◌++◌, ◌∷◌, [], ap, arith, get_or, length, map, subst, sym, take, List, ℕ}
+use Rattle.std.proofs.Common.{◌≡◌, ◌∙◌, ◌+◌, ◌<◌, ◌≤◌, ◌++◌, ◌∷◌, [], ap, arith, get_or, length, map, refl, subst, sym, take, List, ℕ}
 use Rattle.std.specs.List.{All}
 use Rattle.std.proofs.lemmas.Grind.{common_steps}
 use Rattle.std.proofs.lemmas.List.{map_more, take_all}
-use Rattle.std.proofs.lemmas.List.Elements.{All-push}
+use Rattle.std.proofs.lemmas.List.Elements.{All-nil, All-push}
+use Rattle.std.proofs.lemmas.Result.{err_from_is_err_and}
 use Rattle.isl_meter.specs.Gauge.{Gauge}
-use Rattle.isl_meter.proofs.CutLemmas.{IsCharged_trans}
+use Rattle.isl_meter.proofs.CutLemmas.{IsCharged_refl, IsCharged_trans}
 use Rattle.isl_piece.specs.declared.row.Row.{Row}
 use Rattle.isl_piece.specs.declared.system.System.{System}
 use Rattle.isl_piece.specs.Row.{IsRowWithin, IsWellFormed}
 use Rattle.isl_piece.specs.System.{IsSystemWithin}
 use Rattle.isl_piece.proofs.RowMagnitudes.{row_within_kept}
+use Rattle.isl_ledger.specs.Difference.{IsDifferenceRow}
+use Rattle.isl_difference.proofs.TameLaws.{tame_cut, tame_memory, tame_ok}
 use Rattle.isl_span.specs.Moved.{moved_row}
 use Rattle.isl_span.proofs.LinkLaws.{moved_formed}
 use Rattle.isl_span.proofs.moved.moved.Goals as goal
@@ -56,6 +59,11 @@ loop-row-preserved c =
           ∙ sym (map_more (moved_row c.args.last) rows i row low);
       within = subst (All (IsRowWithin g)) (sym pushed) (All-push (IsRowWithin g) c.loop-row.rows new c.loop-row.invariant.within within);
       charged = IsCharged_trans g h c.moved_row.new.meter c.loop-row.invariant.charged c.in_ok-moved_row.ensures.meter;
+      tame = λ bits limit room d.
+          let before = c.loop-row.invariant.tame bits limit room d in
+          let made = c.in_ok-moved_row.ensures.tame bits (same ∙ limit) room (subst (IsDifferenceRow bits) (sym at) (d i row low)) in
+          let used = made.within.units in
+          omega (arith, before, used);
     }
 
 pub returns-clause-exact : goal.returns-clause-exact
@@ -80,3 +88,55 @@ returns-clause-within c =
       count = omega arith;
       definitions = tt;
     })
+
+pub loop-row-init : goal.loop-row-init
+loop-row-init c =
+    let g = c.args.meter.now in
+    record {
+      rows = c.in_ok-rows.ensures;
+      within = subst (All (IsRowWithin g)) (sym c.in_ok-rows.ensures) (All-nil (IsRowWithin g));
+      charged = IsCharged_refl g g refl;
+      tame = λ bits limit room d. omega arith;
+    }
+
+-- ---- of difference constraints
+pub returns-in_err-rows-clause-tame : goal.returns-in_err-rows-clause-tame
+returns-in_err-rows-clause-tame c = λ bits limit room d.
+    let p = err_from_is_err_and c.from_residual.result c.from_residual.ensures.1 in
+    rw (p.1, p.2) (tame_memory 0 0 c.args.meter.now c.args.meter.now _ (omega arith) (omega arith))
+
+pub returns-in_err-moved_row-clause-tame : goal.returns-in_err-moved_row-clause-tame
+returns-in_err-moved_row-clause-tame c = λ bits limit room d.
+    let g = c.args.meter.now in
+    let h = c.loop-row.meter in
+    let rows = c.args.system.now.rows in
+    let row : Row = c.row-item.result in
+    let i = c.loop-row.row-index in
+    let low : i < length rows = grind (arith, common_steps) in
+    let at : row ≡ get_or rows i row = subst (λ (rs : List Row). row ≡ get_or rs i row) c.as_slice-row-items.ensures c.row-item.is in
+    let same = ap (λ (x : Gauge). x.bits) c.loop-row.invariant.charged.same in
+    let before = c.loop-row.invariant.tame bits limit room d in
+    let cut = c.in_err-moved_row.ensures.tame bits (same ∙ limit) room (subst (IsDifferenceRow bits) (sym at) (d i row low)) in
+    let p = err_from_is_err_and c.from_residual-in_err-moved_row.result c.from_residual-in_err-moved_row.ensures.1 in
+    rw (p.1, p.2) (tame_cut 0 0 0 g h c.moved_row.new.meter _ _ c.in_err-moved_row.field-0.0 c.loop-row.invariant.charged
+    (omega (arith, before)) (omega arith) cut)
+
+pub returns-in_err-push-clause-tame : goal.returns-in_err-push-clause-tame
+returns-in_err-push-clause-tame c = λ bits limit room d.
+    let g = c.args.meter.now in
+    let rows = c.args.system.now.rows in
+    let row : Row = c.row-item.result in
+    let i = c.loop-row.row-index in
+    let low : i < length rows = grind (arith, common_steps) in
+    let at : row ≡ get_or rows i row = subst (λ (rs : List Row). row ≡ get_or rs i row) c.as_slice-row-items.ensures c.row-item.is in
+    let same = ap (λ (x : Gauge). x.bits) c.loop-row.invariant.charged.same in
+    let before = c.loop-row.invariant.tame bits limit room d in
+    let made = c.in_ok-moved_row.ensures.tame bits (same ∙ limit) room (subst (IsDifferenceRow bits) (sym at) (d i row low)) in
+    let used = made.within.units in
+    let p = err_from_is_err_and c.from_residual-in_err-push.result c.from_residual-in_err-push.ensures.1 in
+    rw (p.1, p.2) (tame_memory 0 0 g c.moved_row.new.meter _ (omega (arith, before, used)) (omega arith))
+
+pub returns-clause-tame : goal.returns-clause-tame
+returns-clause-tame c = λ bits limit room d.
+    let before = c.loop-row.invariant.tame bits limit room d in
+    tame_ok 0 c.args.meter.now c.loop-row.meter _ _ (omega (arith, before)) tt

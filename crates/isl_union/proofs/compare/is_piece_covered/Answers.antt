@@ -4,13 +4,13 @@ use Rattle.std.proofs.lemmas.Result.{err_from_is_err_and}
 use Rattle.isl_space.specs.SpaceForm.{SpaceForm, IsWellFormedSpace}
 use Rattle.isl_piece.specs.declared.system.System.{System}
 use Rattle.isl_piece.specs.System.{HoldsSystem, IsSystemWithin, free_columns}
-use Rattle.isl_ledger.specs.Difference.{IsDifferenceSystem}
 use Rattle.isl_ledger.proofs.AnsweredLaws.{tame_more}
 use Rattle.isl_ledger.proofs.SizeLaws.{system_wider}
 use Rattle.isl_elim.specs.Sample.{IsNowhere}
 use Rattle.isl_difference.specs.Difference.{IsCovered}
-use Rattle.isl_difference.specs.Tame.{left_work}
-use Rattle.isl_difference.proofs.TameLaws.{left_work_more, tame_memory}
+use Rattle.isl_difference.specs.Tame.{HasFewDifferences, left_work}
+use Rattle.isl_difference.proofs.TameLaws.{few_differences, left_work_more, tame_memory}
+use Rattle.isl_union.specs.Tame.{systems_of}
 use Rattle.isl_union.specs.Minus.{systems_in, AreCovered}
 use Rattle.isl_union.specs.Piece.{kept_piece}
 use Rattle.isl_union.proofs.CompareLaws.{covered_back, covered_from, true_exactly}
@@ -65,7 +65,8 @@ returns-clause-tame c = λ columns bits limit room own all.
     let systems = c.in_ok-systems.systems.items in
     let are = c.in_ok-systems.ensures ∙ ap (λ (s : SpaceForm). systems_in s others) c.space.ensures in
     let few = few_found (λ s. s.now) piece.space others systems are in
-    let each = all_found (λ s. s.now) piece.space others systems are (IsDifferenceSystem columns bits) all in
+    let each = all_found (λ s. s.now) piece.space others systems are (HasFewDifferences columns bits)
+    (λ k d l. few_differences columns bits (get_or (systems_of others) k d) (all k d l)) in
     let live = subst (All P) (sym are) (systems_all P piece.space others (λ k d l same.
     view_somewhere params (get_or others k d) (c.requires.others k d l))) in
     let first = system_wider columns columns bits (bits + 1) piece.system (omega arith) (omega arith) own in

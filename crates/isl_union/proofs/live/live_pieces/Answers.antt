@@ -1,4 +1,4 @@
-use Rattle.std.proofs.Common.{◌≡◌, ◌∙◌, refl, ap, ap₂, arith, sym, subst, ◌+◌, ◌*◌, ◌<◌, length, map, option_map}
+use Rattle.std.proofs.Common.{◌≡◌, ◌∙◌, refl, ap, ap₂, arith, sym, subst, ◌*◌, ◌<◌, ℕ, length, map, option_map}
 use Rattle.std.proofs.lemmas.Grind.{common_steps}
 use Rattle.std.proofs.lemmas.List.Elements.{All-nil}
 use Rattle.std.proofs.lemmas.Result.{err_from_is_err_and}
@@ -6,14 +6,15 @@ use Rattle.isl_meter.proofs.CutLemmas.{IsCharged_refl, IsCharged_trans}
 use Rattle.isl_space.specs.Space.{space_form_of}
 use Rattle.isl_space.specs.SpaceForm.{IsWellFormedSpace}
 use Rattle.isl_piece.specs.System.{IsSystemWithin, free_columns}
-use Rattle.isl_difference.specs.Tame.{HasDifferenceRows}
-use Rattle.isl_difference.proofs.TameLaws.{tame_cut, tame_memory, tame_ok}
+use Rattle.isl_difference.specs.Tame.{HasNormalDifferences}
+use Rattle.isl_ledger.specs.Work.{AreOfSize}
+use Rattle.isl_ledger.proofs.TurnLaws.{turns_all, turns_cut, turns_memory, turns_more, turns_none}
+use Rattle.isl_difference.proofs.TameLaws.{tame_memory}
 use Rattle.isl_union.specs.KeptValue.{KeptPiece, columns_of}
 use Rattle.isl_union.specs.Live.{normal_of, IsLiveOf}
 use Rattle.isl_union.specs.Piece.{kept_piece, piece_of, IsPieceOf, IsPieceOver}
 use Rattle.isl_union.specs.Tame.{size_of, systems_of}
 use Rattle.isl_union.proofs.MeetSteps.{charged_bits, found_sound, item_has, live_step, over_later}
-use Rattle.isl_union.proofs.SizeLaws.{turn_fits, turn_more}
 use Rattle.isl_union.proofs.TameLaws.{found_more, none_of_size}
 use Rattle.isl_union.proofs.live.live_pieces.Goals as goal
 
@@ -34,7 +35,8 @@ loop-piece-init c =
     record {
       kept = ap (map kept_piece) none;
       sound = rw none (All-nil (IsPieceOf c.args.params.now));
-      tame = λ columns bits limit room all. (omega arith, none_of_size (size_of 0 columns bits) _ (ap systems_of none));
+      tame = λ columns bits limit room all. turns_none (columns * (columns * columns)) c.args.meter.now _
+          (none_of_size (size_of 0 columns bits) _ (ap systems_of none));
       charged = IsCharged_refl c.args.meter.now c.args.meter.now refl;
     }
 
@@ -63,16 +65,12 @@ loop-piece-preserved c =
           c.in_ok-push_found.ensures so_far.kept;
       sound = found_sound (IsPieceOf params) kept c.push_found.new.kept.items found so_far.sound both.1 c.in_ok-push_found.ensures;
       tame = λ columns bits limit room all.
-          let before = so_far.tame columns bits limit room all in
-          let here = subst (HasDifferenceRows columns bits) (sym is)
-          (item_has (λ p. HasDifferenceRows columns bits p.system) pieces i piece low c.piece-item.is all) in
+          let here = subst (HasNormalDifferences columns bits) (sym is)
+          (item_has (λ p. HasNormalDifferences columns bits p.system) pieces i piece low c.piece-item.is all) in
           let asked = c.in_ok-live_piece.ensures.tame columns bits (sym (charged_bits g c.loop-piece.meter so_far.charged) ∙ limit) room here in
-          let first = before.0 in
-          let second = asked.within.units in
-          let turns = turn_more i (columns * (columns * columns)) in (
-            omega (arith, first, second, turns),
-            found_more i columns bits kept c.push_found.new.kept.items found c.in_ok-push_found.ensures asked.answer before.1,
-          );
+          turns_more i (columns * (columns * columns)) g c.loop-piece.meter c.live_piece.new.meter _ _ _ found
+          (so_far.tame columns bits limit room all) c.in_ok-live_piece.ensures.meter asked
+          (λ sized one. found_more i columns bits kept c.push_found.new.kept.items found c.in_ok-push_found.ensures one sized);
       charged = IsCharged_trans g c.loop-piece.meter c.live_piece.new.meter so_far.charged c.in_ok-live_piece.ensures.meter;
     }
 
@@ -84,66 +82,50 @@ returns-in_err-kept-clause-tame c = λ columns bits limit room all.
 
 pub returns-in_err-system-clause-tame : goal.returns-in_err-system-clause-tame
 returns-in_err-system-clause-tame c = λ columns bits limit room all.
-    let w = columns * (columns * columns) in
-    let g = c.args.meter.now in
     let h = c.loop-piece.meter in
-    let pieces = c.args.pieces.now in
-    let i = c.loop-piece.piece-index in
-    let piece = c.piece-item.result in
-    let low : i < length pieces = omega arith in
-    let so_far = c.loop-piece.invariant in
-    let before = so_far.tame columns bits limit room all in
-    let first = before.0 in
-    let turns = turn_fits i (length pieces) w low in
     let p = err_from_is_err_and c.from_residual-in_err-system.result c.from_residual-in_err-system.ensures.1 in
-    rw (p.1, p.2) (tame_memory (i * w) (length pieces * w) g h _ first (omega (arith, turns)))
+    rw (p.1, p.2) (turns_memory c.loop-piece.piece-index (length c.args.pieces.now) (columns * (columns * columns)) c.args.meter.now h h _ _
+    (omega arith) (c.loop-piece.invariant.tame columns bits limit room all) (omega arith))
 
 pub returns-in_err-live_piece-clause-tame : goal.returns-in_err-live_piece-clause-tame
 returns-in_err-live_piece-clause-tame c = λ columns bits limit room all.
-    let w = columns * (columns * columns) in
-    let g = c.args.meter.now in
     let h = c.loop-piece.meter in
     let pieces = c.args.pieces.now in
     let i = c.loop-piece.piece-index in
     let piece = c.piece-item.result in
     let low : i < length pieces = omega arith in
     let so_far = c.loop-piece.invariant in
-    let before = so_far.tame columns bits limit room all in
-    let first = before.0 in
-    let turns = turn_fits i (length pieces) w low in
     let is : c.in_ok-system.system ≡ piece.system = c.in_ok-system.ensures ∙ c.system.ensures in
-    let here = subst (HasDifferenceRows columns bits) (sym is)
-    (item_has (λ p. HasDifferenceRows columns bits p.system) pieces i piece low c.piece-item.is all) in
-    let later = sym (charged_bits g h so_far.charged) ∙ limit in
+    let here = subst (HasNormalDifferences columns bits) (sym is)
+    (item_has (λ p. HasNormalDifferences columns bits p.system) pieces i piece low c.piece-item.is all) in
+    let later = sym (charged_bits c.args.meter.now h so_far.charged) ∙ limit in
     let p = err_from_is_err_and c.from_residual-in_err-live_piece.result c.from_residual-in_err-live_piece.ensures.1 in
-    rw (p.1, p.2) (tame_cut (i * w) w (length pieces * w) g h c.live_piece.new.meter _ _ c.in_err-live_piece.field-0.0 so_far.charged first turns
-    (c.in_err-live_piece.ensures.tame columns bits later room here))
+    rw (p.1, p.2) (turns_cut i (length pieces) (columns * (columns * columns)) c.args.meter.now h c.live_piece.new.meter _ _ _
+    c.in_err-live_piece.field-0.0 low (so_far.tame columns bits limit room all) (c.in_err-live_piece.ensures.tame columns bits later room here))
 
 pub returns-in_err-push_found-clause-tame : goal.returns-in_err-push_found-clause-tame
 returns-in_err-push_found-clause-tame c = λ columns bits limit room all.
-    let w = columns * (columns * columns) in
-    let g = c.args.meter.now in
     let h = c.loop-piece.meter in
     let pieces = c.args.pieces.now in
     let i = c.loop-piece.piece-index in
     let piece = c.piece-item.result in
     let low : i < length pieces = omega arith in
     let so_far = c.loop-piece.invariant in
-    let before = so_far.tame columns bits limit room all in
-    let first = before.0 in
-    let turns = turn_fits i (length pieces) w low in
     let is : c.in_ok-system.system ≡ piece.system = c.in_ok-system.ensures ∙ c.system.ensures in
-    let here = subst (HasDifferenceRows columns bits) (sym is)
-    (item_has (λ p. HasDifferenceRows columns bits p.system) pieces i piece low c.piece-item.is all) in
-    let later = sym (charged_bits g h so_far.charged) ∙ limit in
+    let here = subst (HasNormalDifferences columns bits) (sym is)
+    (item_has (λ p. HasNormalDifferences columns bits p.system) pieces i piece low c.piece-item.is all) in
+    let later = sym (charged_bits c.args.meter.now h so_far.charged) ∙ limit in
     let asked = c.in_ok-live_piece.ensures.tame columns bits later room here in
-    let second = asked.within.units in
     let p = err_from_is_err_and c.from_residual-in_err-push_found.result c.from_residual-in_err-push_found.ensures.1 in
-    rw (p.1, p.2) (tame_memory (i * w + w) (length pieces * w) g c.live_piece.new.meter _ (omega (arith, first, second)) turns)
+    rw (p.1, p.2) (turns_memory i (length pieces) (columns * (columns * columns)) c.args.meter.now h c.live_piece.new.meter _ _ low
+    (so_far.tame columns bits limit room all) asked.within.units)
 
 pub returns-clause-tame : goal.returns-clause-tame
 returns-clause-tame c = λ columns bits limit room all.
-    let w = columns * (columns * columns) in
-    let end : c.loop-piece.piece-index ≡ length c.args.pieces.now = grind (arith, common_steps) in
-    let whole = rw end at (c.loop-piece.invariant.tame columns bits limit room all) in
-    tame_ok (length c.args.pieces.now * w) c.args.meter.now c.loop-piece.meter _ _ whole.0 whole.1
+    let n = length c.args.pieces.now in
+    let i = c.loop-piece.piece-index in
+    let end : i ≡ n = grind (arith, common_steps) in
+    let kept = c.loop-piece.kept.items in
+    turns_all i n (columns * (columns * columns)) c.args.meter.now c.loop-piece.meter _ _ _ end
+    (c.loop-piece.invariant.tame columns bits limit room all)
+    (λ sized. subst (λ (m : ℕ). AreOfSize (size_of m columns bits) (systems_of kept)) end sized)

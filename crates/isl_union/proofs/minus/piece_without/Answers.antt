@@ -1,4 +1,4 @@
-use Rattle.std.proofs.Common.{◌≡◌, [], sym, ap, ◌∙◌, arith, subst, ◌+◌, ◌∷◌, length, map}
+use Rattle.std.proofs.Common.{◌≡◌, [], sym, ap, ◌∙◌, arith, subst, ◌+◌, ◌∷◌, get_or, length, map}
 use Rattle.std.specs.List.{All}
 use Rattle.std.proofs.lemmas.Grind.{common_steps}
 use Rattle.std.proofs.lemmas.List.{nil_from_length}
@@ -8,10 +8,10 @@ use Rattle.isl_piece.specs.Piece.{PieceView}
 use Rattle.isl_space.specs.SpaceForm.{SpaceForm, IsWellFormedSpace}
 use Rattle.isl_piece.specs.declared.system.System.{System}
 use Rattle.isl_piece.specs.System.{IsSystemWithin, free_columns}
-use Rattle.isl_ledger.specs.Difference.{IsDifferenceSystem}
 use Rattle.isl_ledger.proofs.SizeLaws.{system_wider}
-use Rattle.isl_difference.specs.Tame.{left_size, left_work}
-use Rattle.isl_difference.proofs.TameLaws.{left_size_more, left_work_more, tame_memory, tame_ok}
+use Rattle.isl_difference.specs.Tame.{HasFewDifferences, left_size, left_work}
+use Rattle.isl_difference.proofs.TameLaws.{few_differences, left_size_more, left_work_more, tame_memory, tame_ok}
+use Rattle.isl_union.specs.Tame.{systems_of}
 use Rattle.isl_union.specs.Minus.{piece_in, systems_in}
 use Rattle.isl_union.proofs.CountLaws.{length_mapped}
 use Rattle.isl_union.proofs.MinusLaws.{left_alone, left_over, systems_all, systems_free, systems_within}
@@ -114,7 +114,8 @@ returns-in_err-left-clause-tame c = λ columns bits limit room own all.
     let systems = c.in_ok-systems.systems.items in
     let are = c.in_ok-systems.ensures ∙ ap (λ (s : SpaceForm). systems_in s others) c.space-space.ensures in
     let few = few_found (λ s. s.now) piece.space others systems are in
-    let each = all_found (λ s. s.now) piece.space others systems are (IsDifferenceSystem columns bits) all in
+    let each = all_found (λ s. s.now) piece.space others systems are (HasFewDifferences columns bits)
+    (λ k d l. few_differences columns bits (get_or (systems_of others) k d) (all k d l)) in
     let first = system_wider columns columns bits (bits + 1) piece.system (omega arith) (omega arith) own in
     let p = err_from_is_err_and c.from_residual-in_err-left.result c.from_residual-in_err-left.ensures.1 in
     let cut = (rw (c.as_slice.ensures.value, c.system.ensures) at c.in_err-left.ensures.tame) columns bits limit room first each in
@@ -129,7 +130,8 @@ returns-in_err-pieces_in-clause-tame c = λ columns bits limit room own all.
     let systems = c.in_ok-systems.systems.items in
     let are = c.in_ok-systems.ensures ∙ ap (λ (s : SpaceForm). systems_in s others) c.space-space.ensures in
     let few = few_found (λ s. s.now) piece.space others systems are in
-    let each = all_found (λ s. s.now) piece.space others systems are (IsDifferenceSystem columns bits) all in
+    let each = all_found (λ s. s.now) piece.space others systems are (HasFewDifferences columns bits)
+    (λ k d l. few_differences columns bits (get_or (systems_of others) k d) (all k d l)) in
     let first = system_wider columns columns bits (bits + 1) piece.system (omega arith) (omega arith) own in
     let p = err_from_is_err_and c.from_residual-in_err-pieces_in.result c.from_residual-in_err-pieces_in.ensures.1 in
     let asked = (rw (c.as_slice.ensures.value, c.system.ensures) at c.in_ok-left.ensures.tame) columns bits limit room first each in
@@ -144,7 +146,8 @@ returns-clause-tame c = λ columns bits limit room own all.
     let systems = c.in_ok-systems.systems.items in
     let are = c.in_ok-systems.ensures ∙ ap (λ (s : SpaceForm). systems_in s others) c.space-space.ensures in
     let few = few_found (λ s. s.now) piece.space others systems are in
-    let each = all_found (λ s. s.now) piece.space others systems are (IsDifferenceSystem columns bits) all in
+    let each = all_found (λ s. s.now) piece.space others systems are (HasFewDifferences columns bits)
+    (λ k d l. few_differences columns bits (get_or (systems_of others) k d) (all k d l)) in
     let first = system_wider columns columns bits (bits + 1) piece.system (omega arith) (omega arith) own in
     let asked = (rw (c.as_slice.ensures.value, c.system.ensures) at c.in_ok-left.ensures.tame) columns bits limit room first each in
     let parts = c.in_ok-left.left.items in

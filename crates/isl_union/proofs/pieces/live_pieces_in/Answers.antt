@@ -8,7 +8,7 @@ use Rattle.isl_piece.specs.System.{IsSystemWithin, free_columns}
 use Rattle.isl_piece.proofs.FormedLaws.{system_within_kept}
 use Rattle.isl_piece.specs.Piece.{PieceView}
 use Rattle.isl_ledger.specs.Difference.{IsDifferenceSystem}
-use Rattle.isl_difference.specs.Tame.{HasDifferenceRows}
+use Rattle.isl_difference.specs.Tame.{HasNormalDifferences}
 use Rattle.isl_difference.proofs.TameLaws.{tame_cut, tame_memory, tame_ok}
 use Rattle.isl_union.specs.KeptValue.{columns_of}
 use Rattle.isl_union.specs.Piece.{IsPieceOf}
@@ -65,7 +65,7 @@ loop-system-preserved c =
       sound = found_sound (IsPieceOf params) kept pushed found so_far.sound both.1 c.in_ok-push_found.ensures;
       charged = IsCharged_trans g c.loop-system.meter c.live_piece.new.meter so_far.charged c.in_ok-live_piece.ensures.meter;
       tame = λ columns bits limit room all.
-          let here = so_far_next (HasDifferenceRows columns bits) params space systems before rest s kept next so_far.live all in
+          let here = so_far_next (HasNormalDifferences columns bits) params space systems before rest s kept next so_far.live all in
           let asked = c.in_ok-live_piece.ensures.tame columns bits (sym (charged_bits g c.loop-system.meter so_far.charged) ∙ limit) room here in
           let first = so_far.tame columns bits limit room all in (
             count_next g.units c.loop-system.meter.units c.live_piece.new.meter.units (length before) (length rest) (length systems)
@@ -119,7 +119,7 @@ returns-in_err-live_piece-clause-tame c = λ columns bits limit room all.
     let s = c.in-Some.system in
     let so_far = c.loop-system.invariant in
     let next : before ≡ s ∷ rest = grind arith in
-    let here = so_far_next (HasDifferenceRows columns bits) c.args.params.now (space_form_of c.args.space.now) systems before rest s
+    let here = so_far_next (HasNormalDifferences columns bits) c.args.params.now (space_form_of c.args.space.now) systems before rest s
     c.loop-system.kept.items next so_far.live all in
     let later = sym (charged_bits g h so_far.charged) ∙ limit in
     let first = (so_far.tame columns bits limit room all).0 in
@@ -140,7 +140,7 @@ returns-in_err-push_found-clause-tame c = λ columns bits limit room all.
     let s = c.in-Some.system in
     let so_far = c.loop-system.invariant in
     let next : before ≡ s ∷ rest = grind arith in
-    let here = so_far_next (HasDifferenceRows columns bits) c.args.params.now (space_form_of c.args.space.now) systems before rest s
+    let here = so_far_next (HasNormalDifferences columns bits) c.args.params.now (space_form_of c.args.space.now) systems before rest s
     c.loop-system.kept.items next so_far.live all in
     let later = sym (charged_bits g h so_far.charged) ∙ limit in
     let first = (so_far.tame columns bits limit room all).0 in

@@ -6,7 +6,8 @@ use Rattle.std.proofs.lemmas.Result.{err_from_is_err_and}
 use Rattle.isl_piece.specs.System.{free_columns}
 use Rattle.isl_ledger.specs.Answered.{IsTame}
 use Rattle.isl_ledger.specs.Work.{AreOfSize, drop_size}
-use Rattle.isl_difference.proofs.TameLaws.{one_of_size, tame_memory}
+use Rattle.isl_ledger.proofs.SizeLaws.{differences_of}
+use Rattle.isl_difference.proofs.TameLaws.{tame_memory}
 use Rattle.isl_union.specs.Tame.{size_of}
 use Rattle.isl_elim.proofs.RangeLaws.{range_below, range_distinct}
 use Rattle.isl_union.proofs.project.without_columns.Goals as goal
@@ -43,4 +44,6 @@ returns-clause-tame c = λ columns bits limit room d.
     let long : length c.as_slice.result.now ≡ count = ap (λ (l : List ℕ). length l) cols ∙ length-range_with_len first count in
     subst (λ n. IsTame (n * (columns * columns)) c.args.meter.now c.eliminate_all.new.meter
     (λ systems. AreOfSize (drop_size n (size_of 1 columns bits)) systems.items) c.eliminate_all.result) long
-    (c.eliminate_all.ensures.tame (size_of 1 columns bits) limit room (one_of_size columns bits c.args.system.now d))
+    (c.eliminate_all.ensures.tame (size_of 1 columns bits) limit
+    (let few = c.requires.inside in let narrow = d.narrow in omega (arith, room, few, narrow, long))
+    (record { some = omega arith; rows = differences_of columns bits c.args.system.now d }) (λ one. d.normal))

@@ -7,6 +7,7 @@ use Rattle.isl_piece.specs.System.{HoldsSystem, free_columns}
 use Rattle.isl_elim.specs.Sample.{IsNowhere, IsSample}
 use Rattle.isl_ledger.specs.Difference.{IsDifferenceSystem}
 use Rattle.isl_ledger.specs.Work.{allowance}
+use Rattle.isl_ledger.proofs.SizeLaws.{has_size}
 use Rattle.isl_difference.proofs.TameLaws.{one_of_size, tame_memory, tame_ok}
 use Rattle.isl_union.specs.Sample.{point_system}
 use Rattle.isl_union.specs.Tame.{size_of}
@@ -37,13 +38,15 @@ returns-in_err-sample_point-clause-tame c = λ columns bits limit room d.
     rw (p.1, p.2) (cut_more (columns * (columns * columns)) most c.args.meter.now c.sample_point.new.meter _ _ c.in_err-sample_point.field-0.0
     (point_work_allowed columns)
     (c.in_err-sample_point.ensures.tame (size_of 1 columns bits) limit room
-    (one_of_size columns bits c.system.result.now (subst (IsDifferenceSystem columns bits) (sym c.system.ensures) d))))
+    (has_size (size_of 1 columns bits) c.system.result.now
+    (one_of_size columns bits c.system.result.now (subst (IsDifferenceSystem columns bits) (sym c.system.ensures) d)))))
 
 pub returns-in_err-only_piece-in-Some-clause-tame : goal.returns-in_err-only_piece-in-Some-clause-tame
 returns-in_err-only_piece-in-Some-clause-tame c = λ columns bits limit room d.
     let most = 8 * ((columns + 1) * allowance 1 columns) in
     let asked = c.in_ok-sample_point.ensures.tame (size_of 1 columns bits) limit room
-    (one_of_size columns bits c.system.result.now (subst (IsDifferenceSystem columns bits) (sym c.system.ensures) d)) in
+    (has_size (size_of 1 columns bits) c.system.result.now
+    (one_of_size columns bits c.system.result.now (subst (IsDifferenceSystem columns bits) (sym c.system.ensures) d))) in
     let p = err_from_is_err_and c.from_residual-in_err-only_piece-in-Some.result c.from_residual-in_err-only_piece-in-Some.ensures.1 in
     rw (p.1, p.2) (tame_memory (columns * (columns * columns)) most c.args.meter.now c.sample_point.new.meter _ asked.within.units
     (point_work_allowed columns))
@@ -52,7 +55,8 @@ pub returns-clause-tame : goal.returns-clause-tame
 returns-clause-tame c = λ columns bits limit room d.
     let most = 8 * ((columns + 1) * allowance 1 columns) in
     let asked = c.in_ok-sample_point.ensures.tame (size_of 1 columns bits) limit room
-    (one_of_size columns bits c.system.result.now (subst (IsDifferenceSystem columns bits) (sym c.system.ensures) d)) in
+    (has_size (size_of 1 columns bits) c.system.result.now
+    (one_of_size columns bits c.system.result.now (subst (IsDifferenceSystem columns bits) (sym c.system.ensures) d))) in
     let used = asked.within.units in
     let room = point_work_allowed columns in
     tame_ok most c.args.meter.now c.sample_point.new.meter _ _ (omega (arith, used, room)) tt
