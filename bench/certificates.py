@@ -2,6 +2,8 @@
 """A checker of the proofs that `iscc --cert` prints, which shares no code with it.
 
     iscc --cert < script | bench/certificates.py      tells how many proofs were read, and each that is not one
+    .. | bench/certificates.py --lines                the lines, with `proof` in the place of each proof
+    .. | bench/certificates.py --answers              the lines without those behind `True`; a line that is no proof is told
     bench/certificates.py --rows                      its own cases
 
 Each `True` is followed by directions. A direction is the line `outside V`, and for each piece U the lines `from U` and its proof: that no
@@ -232,21 +234,37 @@ def pieces_of(text):
         yield space, len(names), [row_of(row, names) for row in rows.split(" and ")] if rows else []
 
 
-def lines_told(lines):
-    """How many directions and proofs there are, and what is wrong with which line."""
-    directions, proofs, wrong, value, piece = 0, 0, [], None, None
-    for at, line in enumerate(lines, 1):
+def each_line(lines):
+    """Of each line what it is, `answer`, `outside`, `from` or `proof`, and why a proof is none."""
+    value, piece = None, None
+    for line in lines:
         if piece is not None:
             space, columns, rows = piece
-            why = is_proof(line, rows, [r for s, _, r in value if s == space], columns)
-            proofs, piece = proofs + 1, None
-            if why:
-                wrong.append((at, why))
+            yield "proof", is_proof(line, rows, [r for s, _, r in value if s == space], columns)
+            piece = None
         elif line.startswith("outside "):
-            directions, value = directions + 1, list(pieces_of(line[8:]))
+            value = list(pieces_of(line[8:]))
+            yield "outside", None
         elif line.startswith("from "):
             [piece] = pieces_of(line[5:])
-    return directions, proofs, wrong
+            yield "from", None
+        else:
+            yield "answer", None
+
+
+def lines_told(lines):
+    """How many directions and proofs there are, and what is wrong with which line."""
+    told = list(each_line(lines))
+    wrong = [(at, why) for at, (_, why) in enumerate(told, 1) if why]
+    return sum(what == "outside" for what, _ in told), sum(what == "proof" for what, _ in told), wrong
+
+
+def tell_lines(lines, answers):
+    for line, (what, why) in zip(lines, each_line(lines)):
+        if what == "proof" and (why or not answers):
+            print(f"no proof, {why}: {line}" if why else "proof")
+        elif what == "answer" or not answers:
+            print(line)
 
 
 # ---- its own cases
@@ -331,6 +349,9 @@ def tell_own():
 if __name__ == "__main__":
     if sys.argv[1:] == ["--rows"]:
         sys.exit(1 if tell_own() else 0)
+    if sys.argv[1:] in (["--lines"], ["--answers"]):
+        tell_lines(sys.stdin.read().splitlines(), sys.argv[1] == "--answers")
+        sys.exit(0)
     directions, proofs, wrong = lines_told(sys.stdin.read().splitlines())
     for at, why in wrong:
         print(f"line {at}: {why}")

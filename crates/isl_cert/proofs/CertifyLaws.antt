@@ -1,5 +1,5 @@
 -- What is left, and what is covered.
-use Rattle.std.proofs.Common.{◌≡◌, ◌↔◌, ◌∙◌, refl, sym, ap, subst, arith, Bool, true, false, not, ℕ, ℤ, List, [], ◌∷◌, length, map, Option}
+use Rattle.std.proofs.Common.{◌≡◌, ◌↔◌, refl, sym, ap, subst, arith, Bool, true, false, not, List, [], ◌∷◌, length, Option}
 use Rattle.std.proofs.Common.{Some, None}
 use Rattle.std.specs.Prelude.{IsNone, IsTrue}
 use Rattle.std.specs.List.{All}
@@ -11,15 +11,17 @@ use Rattle.isl_elim.specs.Sample.{IsNowhere}
 use Rattle.isl_meter.specs.Gauge.{Gauge, IsCharged}
 use Rattle.isl_piece.specs.declared.system.System.{System}
 use Rattle.isl_piece.specs.System.{free_columns, HoldsSystem, IsSystemWithin}
+use Rattle.isl_cert.proofs.LivingLaws.{of_living}
+use Rattle.isl_cert.specs.Living.{AreLiving}
 
 -- ---- another moment of the meter
 pub later : (g h : Gauge) (systems : List System) → IsCharged g h → All (IsSystemWithin g) systems → All (IsSystemWithin h) systems
 later g h systems charged all =
     All-weaker (IsSystemWithin g) (IsSystemWithin h) (λ s w. charged_within g h s charged w) systems all
 
-pub later_shown : (g h : Gauge) (systems own : List System) → own ≡ systems → IsCharged g h → All (IsSystemWithin g) systems
+pub later_living : (g h : Gauge) (systems own : List System) → AreLiving systems own → IsCharged g h → All (IsSystemWithin g) systems
     → All (IsSystemWithin h) own
-later_shown g h systems own is charged all = subst (All (IsSystemWithin h)) (sym is) (later g h systems charged all)
+later_living g h systems own are charged all = of_living (IsSystemWithin h) systems own are (later g h systems charged all)
 
 -- ---- free columns
 same_free : (system out : System) → out.columns ≡ system.columns → system.definitions ≡ [] → out.definitions ≡ []
@@ -39,11 +41,11 @@ all_free system (out ∷ outs) plain columns none =
     (all_free system outs plain (All-tail (λ one. one.columns ≡ system.columns) out outs columns)
     (All-tail (λ one. one.definitions ≡ []) out outs none))
 
-pub free_shown : (system : System) (outs own : List System) → own ≡ outs → system.definitions ≡ []
+pub free_living : (system : System) (outs own : List System) → AreLiving outs own → system.definitions ≡ []
     → All (λ out. out.columns ≡ system.columns) outs → All (λ out. out.definitions ≡ []) outs
     → All (λ out. free_columns out ≡ free_columns system) own
-free_shown system outs own is plain columns none =
-    subst (All (λ out. free_columns out ≡ free_columns system)) (sym is) (all_free system outs plain columns none)
+free_living system outs own are plain columns none =
+    of_living (λ out. free_columns out ≡ free_columns system) outs own are (all_free system outs plain columns none)
 
 -- ---- answers
 pub empty_covered : (system : System) (outs : List System) → IsNowhere (free_columns system) (HoldsSystem system) → IsCovered system outs
@@ -66,11 +68,11 @@ none_told C left o none yes' told = subst (λ p. IsNone p ↔ (¬ C)) (sym none)
 pub some_told : {A : Type 0} (C : Type 0) (x : A) → C → IsNone (Some x) ↔ (¬ C)
 some_told C x covered = ((λ i. absurd (true≢false i)), (λ n. absurd (n covered)))
 
-pub left_exact : (system : System) (outs own : List System) (covered : Bool) → own ≡ outs → (IsTrue covered → IsCovered system own)
-    → (IsCovered system own → IsTrue covered) → IsTrue (not covered) ↔ (¬ IsCovered system outs)
-left_exact system outs own covered is f g =
-    covered_left (IsCovered system outs) covered (λ t. subst (IsCovered system) is (f t)) (λ c. g (subst (IsCovered system) (sym is) c))
+pub left_exact : (system : System) (outs own : List System) (covered : Bool) → IsCovered system own ↔ IsCovered system outs
+    → (IsTrue covered → IsCovered system own) → (IsCovered system own → IsTrue covered) → IsTrue (not covered) ↔ (¬ IsCovered system outs)
+left_exact system outs own covered same f g =
+    covered_left (IsCovered system outs) covered (λ t. same.0 (f t)) (λ all. g (same.1 all))
 
-pub left_covered : (system : System) (outs own : List System) (covered : Bool) → own ≡ outs → (IsTrue covered → IsCovered system own)
-    → not covered ≡ false → IsCovered system outs
-left_covered system outs own covered is f e = covered_told (IsCovered system outs) covered (λ t. subst (IsCovered system) is (f t)) e
+pub left_covered : (system : System) (outs own : List System) (covered : Bool) → IsCovered system own ↔ IsCovered system outs
+    → (IsTrue covered → IsCovered system own) → not covered ≡ false → IsCovered system outs
+left_covered system outs own covered same f e = covered_told (IsCovered system outs) covered (λ t. same.0 (f t)) e

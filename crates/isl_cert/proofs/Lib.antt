@@ -1,1 +1,4 @@
+pub mod BoundLaws
 pub mod CertifyLaws
+pub mod LivingLaws
+pub mod WithinLaws

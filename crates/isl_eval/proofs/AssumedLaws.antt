@@ -185,7 +185,7 @@ module _ (assumed : Assumed) (left right : KeptValue) (left_kept : IsKeptValue l
   abbrev Both : List Name
   Both = joined_names left.params right.params
 
-  both_are : joined left.params right.params ≡ Both
+  pub both_are : joined left.params right.params ≡ Both
   both_are = joined_is left.params right.params right_kept.params.distinct
 
   pub left_among : All (Contains Both) left.params

@@ -3,6 +3,7 @@ pub mod NameLaws
 pub mod TypeLaws
 pub mod AssumedLaws
 pub mod TestLaws
+mod ProvedLaws
 pub mod EndsLaws
 pub mod PlainLaws
 pub mod RefusalLaws

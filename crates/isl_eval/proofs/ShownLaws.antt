@@ -80,10 +80,10 @@ use Rattle.isl_values.proofs.EndsLaws.{ends_of-Row}
 use Rattle.isl_values.proofs.PartLaws.{all_left, all_right, quiet_both, sound_links}
 use Rattle.isl_values.proofs.ValueLaws.{match_map, paid_in, paid_works, same_limit, unworked_in}
 use Rattle.isl_eval.specs.Listed.{IsListed, AreFinite}
-use Rattle.isl_eval.specs.Machine.{Answer, Does, Shows, ShowsRow, ShowsValue, Step, listed, nothing, shown}
+use Rattle.isl_eval.specs.Machine.{Answer, Does, Shows, ShowsRow, ShowsTest, ShowsValue, Step, listed, nothing, shown}
 use Rattle.isl_eval.specs.Asked.{is_of_operand, question_of, shows_at_numbers}
 use Rattle.isl_eval.specs.Ended.{IsAssumedWhereNeeded, ListingEnds, NarrowedEnds, StatementEnds}
-use Rattle.isl_eval.specs.Tests.{is_test, RowHolds}
+use Rattle.isl_eval.specs.Tests.{is_test, RowSays}
 use Rattle.isl_eval.specs.Evaluated.{made_parts, shown_parts, parts_around_test, works, IsTyped, IsEvaluable}
 use Rattle.isl_eval.specs.Evaluation.{ends_with_test, context_in, is_asked, is_codegen, is_coalesce, keeps_selected, refusal_of_fault}
 use Rattle.isl_eval.specs.Evaluation.{AreKeptIn, EndsListing, EndsPair, EndsTest, EndsWork, IsKeptIn, IsMakeable, IsReadyTest, IsSampled}
@@ -404,7 +404,7 @@ abbrev pub moment_of : StateView → Gauge → OptionsView → Moment
 moment_of state meter options = record { state = state; meter = meter; options = options }
 
 abbrev pub no_options : OptionsView
-no_options = record { bits = 0; budget = 0; at = []; run = false; make = None; keep_going = false }
+no_options = record { bits = 0; budget = 0; at = []; run = false; make = None; keep_going = false; cert = false }
 
 pub kept_plain : (state : StateView) (meter : Gauge) (expr : Expr) (value : KeptValue) → IsKeptIn state (limit_of meter) expr value
     → HasNoDefinitions value
@@ -768,7 +768,9 @@ pub shows_value : (before : Moment) (expr : Expr) (answer : Answer) → is_asked
 shows_value before (Prefix' p.Scan s operand) answer none value = absurd (false≢true (sym none))
 shows_value before (Prefix' p.Codegen s operand) answer none value = absurd (false≢true (sym none))
 shows_value before (Row' s first t links) answer none value =
-    subst (λ (b : Bool). ShowsRow b (RowHolds before.state first links) before (Row' s first t links) answer) (sym none) value
+    subst (λ (b : Bool). ShowsRow b
+    (RowSays (ShowsTest before (declared_of (scope_of before.state) (Row' s first t links)) answer) before.state first links) before
+    (Row' s first t links) answer) (sym none) value
 shows_value before _ answer none value = value
 
 shown_made : (expr : Expr) → is_asked expr ≡ false → shown_parts expr ≡ made_parts expr

@@ -1,8 +1,8 @@
 -- Rows with a test at their end, at the constructors of the code.
 use mathlib.Core.Former.{Count}
 use Rattle.std.proofs.Common.{◌≡◌, ◌∙◌, ◌↔◌, ◌⊎◌, ◌<◌, ◌≤◌, inl, inr, refl, sym, ap, ap₂, subst, arith}
-use Rattle.std.proofs.Common.{Bool, true, false, List, [], ◌∷◌, ◌++◌, length, Option, Result, Ok, Err}
-use Rattle.std.specs.Prelude.{unsigned_abs, not, IsTrue, IfOk, MatchResult, if◌then◌else◌, ◌||◌}
+use Rattle.std.proofs.Common.{ℕ, Bool, true, false, List, [], ◌∷◌, ◌++◌, length, Option, Result, Ok, Err}
+use Rattle.std.specs.Prelude.{unsigned_abs, not, IsTrue, IfOk, MatchResult, if◌then◌else◌, ◌||◌, ◌&&◌}
 use Rattle.std.specs.List.{list_any}
 use Rattle.std.proofs.lemmas.Bool.{or_parts, false≢true}
 use Rattle.isl_meter.specs.Gauge.{Gauge, limit_of, IsCharged, IsCutBy}
@@ -29,10 +29,11 @@ use Rattle.isl_tree.specs.declared.statement.Expr.TheBlock.{hidden-the_row-Expr-
 use Rattle.isl_kinds.specs.Parts.{Part, parts_of, parts_of_links, parts_in_links}
 use Rattle.isl_kinds.specs.Parts as part
 use Rattle.isl_kinds.specs.Typed.{ScopeView, declared_of, declared_of_row, joined_names}
+use Rattle.isl_kinds.proofs.DeclaredLaws.{declared_of-Row}
 use Rattle.isl_kinds.proofs.PartLaws.{links_are, any_in_link}
 use Rattle.isl_assumed.specs.Assumed.{Assumes}
 use Rattle.isl_values.specs.Live.{IsUnderOf}
-use Rattle.isl_values.specs.State.{StateView, Moment, HasNumbersUpTo}
+use Rattle.isl_values.specs.State.{StateView, Moment, HasNumbersUpTo, scope_of}
 use Rattle.isl_operators.specs.Operations.{OperatorHas}
 use Rattle.isl_operators.proofs.NamesLaws.{turned_fits}
 use Rattle.isl_values.specs.Selection.{Selects, RowSelects, context_of}
@@ -42,11 +43,12 @@ use Rattle.isl_values.specs.Made.{IsPaid, IsWhyUnmade, IsWhyUnworked, refusal_of
 use Rattle.isl_values.proofs.PartLaws.{quiet_both}
 use Rattle.isl_values.proofs.RowLaws.{same_row, same_trans}
 use Rattle.isl_values.proofs.ValueLaws.{numbers_later, paid_works, unmade_memory, unworked_after}
-use Rattle.isl_eval.specs.Tests.{Elements, is_test, ends_with_test, IsPartOf, TestHolds, HoldsPastLinks}
-use Rattle.isl_eval.specs.Machine.{Answer, Shows, ShowsRow, told}
+use Rattle.isl_eval.specs.Claims.{ProvesTest}
+use Rattle.isl_eval.specs.Tests.{Elements, is_test, ends_with_test, IsPartOf, SaysPastLinks, TestHolds}
+use Rattle.isl_eval.specs.Machine.{Answer, Shows, ShowsRow, ShowsTest, told}
 use Rattle.std.specs.Option.{option_map_or}
 use Rattle.isl_eval.specs.Evaluated.{made_parts, shown_parts, parts_around_test}
-use Rattle.isl_eval.specs.Evaluation.{EndsTwo, IsTestOf, Tells, context_in, past_row}
+use Rattle.isl_eval.specs.Evaluation.{EndsTwo, IsTestOf, Tells, context_in, names_tested, past_row}
 use Rattle.isl_eval.specs.Evaluation.{ends_with_test as ends}
 use Rattle.isl_eval.proofs.AssumedLaws.{both_same, left_among, not_same, right_among, test_told}
 
@@ -57,11 +59,11 @@ around [] = []
 around (link ∷ []) = parts_of link.operand
 around (link ∷ next ∷ more) = part.operator link.operator ∷ (parts_of link.operand ++ around (next ∷ more))
 
-abbrev HoldsPast : StateView → Elements → List Link → Type 0
-HoldsPast state Left [] = ⊥
-HoldsPast state Left (link ∷ []) = TestHolds state link.operator Left (λ v x. Selects state link.operand v x)
-HoldsPast state Left (link ∷ next ∷ more) =
-    HoldsPast state (λ v x. OperatorHas link.operator (Left v) (λ y. Selects state link.operand v y) x) (next ∷ more)
+abbrev SaysPast : (Binary → Elements → Elements → Type 0) → StateView → Elements → List Link → Type 0
+SaysPast Says state Left [] = ⊥
+SaysPast Says state Left (link ∷ []) = Says link.operator Left (λ v x. Selects state link.operand v x)
+SaysPast Says state Left (link ∷ next ∷ more) =
+    SaysPast Says state (λ v x. OperatorHas link.operator (Left v) (λ y. Selects state link.operand v y) x) (next ∷ more)
 
 pub ends_are : (m : Count) (row : Row_of-Link m) → ends_with_test row ≡ ends (items-the_row-Link m row)
 ends_are m end_of-Link = refl
@@ -74,12 +76,21 @@ around_are m (more_of-Link operator operand end_of-Link) = refl
 around_are m (more_of-Link operator operand (more_of-Link next other row)) =
     ap (λ ps. part.operator operator ∷ (parts_of operand ++ ps)) (around_are _ (more_of-Link next other row))
 
-holds_are : (m : Count) (state : StateView) (Left : Elements) (row : Row_of-Link m)
-    → HoldsPastLinks state Left row ↔ HoldsPast state Left (items-the_row-Link m row)
-holds_are m state Left end_of-Link = ((λ h. h), (λ h. h))
-holds_are m state Left (more_of-Link operator operand end_of-Link) = ((λ h. h), (λ h. h))
-holds_are m state Left (more_of-Link operator operand (more_of-Link next other row)) =
-    holds_are _ state (λ v x. OperatorHas operator (Left v) (λ y. Selects state operand v y) x) (more_of-Link next other row)
+module _ (Says : Binary → Elements → Elements → Type 0) (state : StateView) where
+  says_are : (m : Count) (Left : Elements) (row : Row_of-Link m) → SaysPast Says state Left (items-the_row-Link m row)
+      → SaysPastLinks Says state Left row
+  says_are m Left end_of-Link says = says
+  says_are m Left (more_of-Link operator operand end_of-Link) says = says
+  says_are m Left (more_of-Link operator operand (more_of-Link next other row)) says =
+      says_are _ (λ v x. OperatorHas operator (Left v) (λ y. Selects state operand v y) x) (more_of-Link next other row) says
+
+  says_at : (Left : Elements) (before : List Link) (last : Link)
+      → Says last.operator (λ v x. RowSelects state v (Left v) before x) (λ v x. Selects state last.operand v x)
+      → SaysPast Says state Left (before ++ last ∷ [])
+  says_at Left [] last says = says
+  says_at Left (link ∷ []) last says = says
+  says_at Left (link ∷ next ∷ before) last says =
+      says_at (λ v x. OperatorHas link.operator (Left v) (λ y. Selects state link.operand v y) x) (next ∷ before) last says
 
 -- ---- the last link
 
@@ -108,13 +119,12 @@ around_at test (link ∷ next ∷ before) last none =
     let rest = around_at test (next ∷ before) last both.1 in
     (around_link test link (next ∷ before) sign.0 both.0 rest.0, rest.1)
 
-holds_at : (state : StateView) (Left : Elements) (before : List Link) (last : Link)
-    → HoldsPast state Left (before ++ last ∷ [])
-    ↔ TestHolds state last.operator (λ v x. RowSelects state v (Left v) before x) (λ v x. Selects state last.operand v x)
-holds_at state Left [] last = ((λ h. h), (λ h. h))
-holds_at state Left (link ∷ []) last = ((λ h. h), (λ h. h))
-holds_at state Left (link ∷ next ∷ before) last =
-    holds_at state (λ v x. OperatorHas link.operator (Left v) (λ y. Selects state link.operand v y) x) (next ∷ before) last
+-- the names of a row are those in front of the last link, and those of its operand
+row_names : (scope : ScopeView) (names : List Name) (before : List Link) (last : Link)
+    → declared_of_row scope names (before ++ last ∷ [])
+    ≡ joined_names (declared_of_row scope names before) (declared_of scope last.operand)
+row_names scope names [] last = refl
+row_names scope names (link ∷ before) last = row_names scope (joined_names names (declared_of scope link.operand)) before last
 
 -- ---- rows of the code
 
@@ -168,36 +178,49 @@ whole_row first links none =
 
 -- ---- answers
 
-row_shown : (before : Moment) (first : Expr) (links : List Link) (answer : Answer) (is : Bool) → ends links ≡ is
-    → ((Holds : Type 0) → (HoldsPast before.state (λ v x. Selects before.state first v x) links ↔ Holds)
-    → ShowsRow is Holds before (Row first links) answer)
+row_shown : (before : Moment) (first : Expr) (links : List Link) (answer : Answer) → ends links ≡ true
+    → SaysPast (ShowsTest before (declared_of (scope_of before.state) (Row first links)) answer) before.state
+    (λ v x. Selects before.state first v x) links
     → Shows before (Row first links) answer
 unfolding hidden-the_row-Expr-0 denote.Hole.Carrier.hidden
-row_shown before first links answer is ending shows =
+row_shown before first links answer ending says =
     let row = hidden-the_row-Link-1 links in
     let are = items_hidden-the_row-Link-1 links in
-    let Holds = HoldsPastLinks before.state (λ v x. Selects before.state first v x) row in
-    subst (λ (b : Bool). ShowsRow b Holds before (Row first links) answer) (sym (ends_are _ row ∙ ap ends are ∙ ending))
-    (shows Holds
-    (subst (λ (ls : List Link). HoldsPast before.state (λ v x. Selects before.state first v x) ls ↔ Holds) are
-    (let h = holds_are _ before.state (λ v x. Selects before.state first v x) row in (h.1, h.0))))
+    let Says = ShowsTest before (declared_of (scope_of before.state) (Row first links)) answer in
+    let Left : Elements = λ v x. Selects before.state first v x in
+    subst (λ (b : Bool). ShowsRow b (SaysPastLinks Says before.state Left row) before (Row first links) answer)
+    (sym (ends_are _ row ∙ ap ends are ∙ ending))
+    (says_are Says before.state _ Left row (subst (λ (ls : List Link). SaysPast Says before.state Left ls) (sym are) says))
 
-pub shows_test : (before : Moment) (x first : Expr) (links around : List Link) (last : Link) (answer : Answer) (holds : Bool)
-    → x ≡ Row first links → links ≡ around ++ last ∷ [] → is_test last.operator ≡ true
-    → (IsTrue holds ↔ TestHolds before.state last.operator (past_row before.state first around)
+pub shows_test : (before : Moment) (x first : Expr) (links around : List Link) (last : Link) (answer : Answer) (asked : Bool)
+    → asked ≡ before.options.cert → x ≡ Row first links → links ≡ around ++ last ∷ [] → is_test last.operator ≡ true
+    → ((holds : Bool) × (lines : List ℕ)
+    × (IsTrue holds ↔ TestHolds before.state last.operator (past_row before.state first around)
     (λ v y. Selects before.state last.operand v y))
-    → answer ≡ told holds → Shows before x answer
-shows_test before x first links around last answer holds is are test iff told_is =
+    × ProvesTest (holds && asked) before.state (names_tested (scope_of before.state) first around last) last.operator
+    (past_row before.state first around) (λ v y. Selects before.state last.operand v y) lines
+    × (answer ≡ told holds lines))
+    → Shows before x answer
+shows_test before x first links around last answer asked option is are test shows =
+    let scope = scope_of before.state in
+    let declared = declared_of scope first in
+    let names : names_tested scope first around last ≡ declared_of scope (Row first links) =
+    sym (declared_of-Row scope first links ∙ ap (declared_of_row scope declared) are ∙ row_names scope declared around last) in
+    let Left : Elements = λ v y. Selects before.state first v y in
+    let Right : Elements = λ v y. Selects before.state last.operand v y in
+    let Says = ShowsTest before (declared_of scope (Row first links)) answer in
+    let proves = subst (λ (ns : List Name). ProvesTest (shows.0 && before.options.cert) before.state ns last.operator
+    (past_row before.state first around) Right shows.1) names
+    (subst (λ (a : Bool). ProvesTest (shows.0 && a) before.state (names_tested scope first around last) last.operator
+    (past_row before.state first around) Right shows.1) option shows.3) in
+    let here : Says last.operator (past_row before.state first around) Right = (shows.0, shows.1, shows.2, proves, shows.4) in
     subst (λ (y : Expr). Shows before y answer) (sym is)
-    (row_shown before first links answer true (ap ends are ∙ ends_at around last ∙ test)
-    (λ Holds same.
-    let at = holds_at before.state (λ v y. Selects before.state first v y) around last in
-    let here = subst (λ (ls : List Link). HoldsPast before.state (λ v y. Selects before.state first v y) ls ↔ Holds) are same in
-    (holds, ((λ t. here.0 (at.1 (iff.0 t))), (λ h. iff.1 (at.0 (here.1 h)))), told_is)))
+    (row_shown before first links answer (ap ends are ∙ ends_at around last ∙ test)
+    (subst (λ (ls : List Link). SaysPast Says before.state Left ls) (sym are) (says_at Says before.state Left around last here)))
 
 -- ---- tests of the same elements
 
-abbrev SamePart : StateView → Elements → Elements → Type 0
+abbrev pub SamePart : StateView → Elements → Elements → Type 0
 SamePart state P Q = (v : Valuation) → Assumes state.assumed v → (x : Element) → P v x ↔ Q v x
 
 part_same : (state : StateView) (P Q R S : Elements) → SamePart state P R → SamePart state Q S → IsPartOf state P Q ↔ IsPartOf state R S

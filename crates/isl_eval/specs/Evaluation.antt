@@ -40,7 +40,7 @@ use Rattle.isl_tree.specs.declared.statement.Binary.TheVariants as b
 use Rattle.isl_union.specs.Compare.{AreEqual, IsSubset}
 use Rattle.isl_tree.specs.Expr.{literals_of, statement_literals}
 use Rattle.isl_kinds.specs.Typed.{TypeView, ScopeView, is_dollar, has_unknown}
-use Rattle.isl_kinds.specs.Typed.{declared_of, joined_names, type_of_statement}
+use Rattle.isl_kinds.specs.Typed.{declared_of, declared_of_row, joined_names, type_of_statement}
 use Rattle.isl_flat.specs.Flat.{flat, is_gist, is_sample}
 use Rattle.isl_flat.specs.Simple.{BindsIn}
 use Rattle.isl_state.specs.declared.list.ListPart.TheVariants.{First}
@@ -49,6 +49,8 @@ use Rattle.isl_values.specs.Live.{IsLiveUnder, IsSampleAt}
 use Rattle.isl_values.specs.Selection.{IsGistOfTwo, IsKeptOf, IsSelected, IsTogetherOf, Keeps, Selects, RowSelects, context_of}
 use Rattle.isl_values.specs.Ends.{because, cut, not_assumed, CutAlone, End, Ends, EndsRow, FirstEnds, GoesOn, OperationEnds}
 use Rattle.isl_values.specs.Made.{is_foreign, IsSoundExpr, IsSoundLink, IsPaid, IsWhyUnworked, refusal_of_cut}
+use Rattle.isl_claim.specs.Claim.{claim_text, Claim, IsClaimOf}
+use Rattle.isl_eval.specs.Claims.{claims_left, claims_right}
 use Rattle.isl_eval.specs.Spelled.{BytesSpell}
 use Rattle.isl_eval.specs.Tests.{Elements, is_test}
 use Rattle.isl_eval.specs.Tests.{ends_with_test as row_ends_with_test}
@@ -286,9 +288,28 @@ Tells b.Gist left right = ⊥
 Tells b.Cross left right = ⊥
 Tells b.Join left right = ⊥
 
+-- the lines of a claim of these values where it is made, and else none
+abbrev pub ShowsClaim : Bool → List Name → KeptValue → KeptValue → List ℕ → Type 0
+ShowsClaim true names lesser greater lines = (claim : Claim) × IsClaimOf names lesser greater claim × (lines ≡ claim_text claim)
+ShowsClaim false names lesser greater lines = lines ≡ []
+
+-- The lines of both claims of a test: that the left value, at assumed valuations alone, is part of the right one; and then of the right
+-- value and the left one.
+pub record ShowsClaims (names : List Name) (test : Binary) (left right left_under right_under : KeptValue) (lines : List ℕ) : Type 0 where
+  pub first : List ℕ
+  pub second : List ℕ
+  pub in_right : ShowsClaim (claims_left test) names left_under right first
+  pub in_left : ShowsClaim (claims_right test) names right_under left second
+  pub text : lines ≡ first ++ second
+
 -- what the operators before a test make of the operands on its left
 abbrev pub past_row : StateView → Expr → List Link → Elements
 past_row state first before valuation element = RowSelects state valuation (Selects state first valuation) before element
+
+-- the names that a row of this last link declares
+abbrev pub names_tested : ScopeView → Expr → List Link → Link → List Name
+names_tested scope first before last =
+    joined_names (declared_of_row scope (declared_of scope first) before) (declared_of scope last.operand)
 
 -- what stands around a test can be worked out
 pub record IsReadyTest (scope : ScopeView) (first : Expr) (before : List Link) (last : Link) : Type 0 where

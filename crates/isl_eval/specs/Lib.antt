@@ -1,4 +1,5 @@
 pub mod Tests
+pub mod Claims
 pub mod Listed
 pub mod Asked
 pub mod Coded

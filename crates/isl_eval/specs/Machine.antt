@@ -1,11 +1,13 @@
 -- public: what simple statements do, and a statement by them. (the iscc chapter of the barvinok manual)
-use Rattle.std.specs.Prelude.{◌≡◌, ◌↔◌, ℕ, Bool, true, false, IsTrue, if◌then◌else◌, List, [], ◌∷◌, ◌++◌, Option, None, Some, codes, length}
+use Rattle.std.specs.Prelude.{◌≡◌, ◌↔◌, ℕ, Bool, true, false, ◌&&◌, IsTrue, if◌then◌else◌, List, [], ◌∷◌, ◌++◌, Option, None, Some}
+use Rattle.std.specs.Prelude.{codes, length}
 use Rattle.isl_meter.specs.Gauge.{IsCharged}
 use Rattle.isl_space.specs.Element.{Element}
 use Rattle.isl_space.specs.Name.{Name}
 use Rattle.isl_union.specs.KeptValue.{KeptValue}
 use Rattle.isl_print.specs.Printed.{printed}
 use Rattle.isl_scan.specs.ListingText.{listing_text}
+use Rattle.isl_tree.specs.declared.statement.Binary.{Binary}
 use Rattle.isl_tree.specs.declared.statement.Expr.{Expr, Row', Prefix', Any', Last', Post'}
 use Rattle.isl_tree.specs.declared.statement.Expr as e
 use Rattle.isl_tree.specs.declared.words.Question.{Question}
@@ -15,11 +17,12 @@ use Rattle.isl_tree.specs.declared.statement.Stmt.TheVariants.{Empty, Bind, Show
 use Rattle.isl_flat.specs.Flat.{flat}
 use Rattle.isl_eval.specs.Params.{HoldsSome}
 use Rattle.isl_state.specs.declared.list.ListPart.TheVariants.{First}
-use Rattle.isl_kinds.specs.Typed.{declared_in}
+use Rattle.isl_kinds.specs.Typed.{declared_in, declared_of}
 use Rattle.isl_values.specs.State.{Kept, Moment, Binds, Narrows, forgotten, scope_of}
 use Rattle.isl_values.specs.Selection.{Keeps, SelectsIn}
 use Rattle.isl_values.specs.Ends.{Elements, GoesOn}
-use Rattle.isl_eval.specs.Tests.{ends_with_test, RowHolds}
+use Rattle.isl_eval.specs.Tests.{ends_with_test, RowSays, TestHolds}
+use Rattle.isl_eval.specs.Claims.{ProvesTest}
 use Rattle.isl_eval.specs.Listed.{IsListed}
 use Rattle.isl_eval.specs.Asked.{question_of}
 use Rattle.isl_eval.specs.Coded.{IsCodeOf}
@@ -45,9 +48,9 @@ text_of_two value (Some second) = codes "(" ++ printed value ++ codes ", " ++ pr
 abbrev pub shown : Kept → Answer
 shown kept = record { bytes = text_of_two kept.value kept.second ++ 10 ∷ []; is_true = false; elements = 0 }
 
--- the line that answers a test
-abbrev pub told : Bool → Answer
-told holds = record { bytes = (if holds then codes "True" else codes "False") ++ 10 ∷ []; is_true = holds; elements = 0 }
+-- the line that answers a test, and the lines behind it
+abbrev pub told : Bool → List ℕ → Answer
+told holds lines = record { bytes = (if holds then codes "True" else codes "False") ++ 10 ∷ lines; is_true = holds; elements = 0 }
 
 -- the line that lists elements
 abbrev pub listed : List Element → Answer
@@ -61,10 +64,16 @@ coded text = record { bytes = text; is_true = false; elements = 0 }
 abbrev pub ShowsValue : Moment → Expr → Answer → Type 0
 ShowsValue before expr answer = (kept : Kept) × Keeps before expr kept × (answer ≡ shown kept)
 
--- whether a test holds, or the value
+-- whether a test holds, over these names, with the proofs of its claims where it does and they are asked for
+abbrev pub ShowsTest : Moment → List Name → Answer → Binary → Elements → Elements → Type 0
+ShowsTest before names answer test P Q =
+    (holds : Bool) × (lines : List ℕ) × (IsTrue holds ↔ TestHolds before.state test P Q)
+    × ProvesTest (holds && before.options.cert) before.state names test P Q lines × (answer ≡ told holds lines)
+
+-- that of a row with a test at its end, or the value
 abbrev pub ShowsRow : Bool → Type 0 → Moment → Expr → Answer → Type 0
-ShowsRow true Holds before expr answer = (holds : Bool) × (IsTrue holds ↔ Holds) × (answer ≡ told holds)
-ShowsRow false Holds before expr answer = ShowsValue before expr answer
+ShowsRow true Shown before expr answer = Shown
+ShowsRow false Shown before expr answer = ShowsValue before expr answer
 
 -- what is asked of an operand that declares these names and selects these elements: these, where parameters have their given numbers; or
 -- loops that visit them; or the value of the whole
@@ -78,7 +87,9 @@ ShowsQuestion question.Value before whole names P answer = ShowsValue before who
 abbrev pub Shows : Moment → Expr → Answer → Type 0
 Shows before (e.Name name) answer = ShowsValue before (e.Name name) answer
 Shows before (e.Literal literal) answer = ShowsValue before (e.Literal literal) answer
-Shows before (Row' s first t links) answer = ShowsRow (ends_with_test links) (RowHolds before.state first links) before
+Shows before (Row' s first t links) answer =
+    ShowsRow (ends_with_test links)
+    (RowSays (ShowsTest before (declared_of (scope_of before.state) (Row' s first t links)) answer) before.state first links) before
     (Row' s first t links) answer
 Shows before (Prefix' word s operand) answer =
     ShowsQuestion (question_of word) before (Prefix' word s operand) (declared_in (scope_of before.state) operand)

@@ -65,13 +65,17 @@ TestHolds state b.Gist P Q = ⊥
 TestHolds state b.Cross P Q = ⊥
 TestHolds state b.Join P Q = ⊥
 
--- The test at the end of a row holds of what the operators before it make of the operands, from the left, and of the last operand.
-abbrev pub HoldsPastLinks : {m : _} → StateView → Elements → Row_of-Link m → Type 0
-HoldsPastLinks state Left end_of-Link = ⊥
-HoldsPastLinks state Left (more_of-Link operator operand end_of-Link) =
-    TestHolds state operator Left (λ valuation element. Selects state operand valuation element)
-HoldsPastLinks state Left (more_of-Link operator operand rest) =
-    HoldsPastLinks state (λ valuation x. OperatorHas operator (Left valuation) (λ y. Selects state operand valuation y) x) rest
+-- what is said of a test and of the elements on both sides of it
+abbrev pub Saying : Type 1
+Saying = Binary → Elements → Elements → Type 0
 
-abbrev pub RowHolds : {m n : _} → StateView → Row_of-Expr m → Row_of-Link n → Type 0
-RowHolds state first links = HoldsPastLinks state (λ valuation x. SelectsIn state First first valuation x) links
+-- It is said of the test at the end of a row, of what the operators before it make of the operands, from the left, and of the last operand.
+abbrev pub SaysPastLinks : {m : _} → Saying → StateView → Elements → Row_of-Link m → Type 0
+SaysPastLinks Says state Left end_of-Link = ⊥
+SaysPastLinks Says state Left (more_of-Link operator operand end_of-Link) =
+    Says operator Left (λ valuation element. Selects state operand valuation element)
+SaysPastLinks Says state Left (more_of-Link operator operand rest) =
+    SaysPastLinks Says state (λ valuation x. OperatorHas operator (Left valuation) (λ y. Selects state operand valuation y) x) rest
+
+abbrev pub RowSays : {m n : _} → Saying → StateView → Row_of-Expr m → Row_of-Link n → Type 0
+RowSays Says state first links = SaysPastLinks Says state (λ valuation x. SelectsIn state First first valuation x) links

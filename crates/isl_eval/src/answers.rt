@@ -77,12 +77,13 @@ impl Answer {
         })
     }
 
-    // The line that tells whether a test holds.
-    pub(crate) fn of_truth(alloc: Global, holds: bool) -> Result<Answer, AllocError>
-        ensures { IfOk result (λ answer. answer ≡ machine.told holds) }
+    // The line that tells whether a test holds, and the lines behind it.
+    pub(crate) fn of_truth(alloc: Global, holds: bool, lines: &str) -> Result<Answer, AllocError>
+        ensures { IfOk result (λ answer. answer ≡ machine.told holds lines.now) }
     {
         let word = if holds { "True\n" } else { "False\n" };
-        let text = String::from_str(alloc, word)?;
+        let mut text = String::from_str(alloc, word)?;
+        text.push_str(lines)?;
         Ok(Answer {
             text,
             is_true: holds,

@@ -6,6 +6,7 @@
 #![tactic(auto)]
 
 mod answers;
+mod claims;
 mod kept;
 mod loops;
 mod numbers;

@@ -1,6 +1,6 @@
 //! What is answered to an expression that is shown.
 
-ghost use Rattle.std.specs.Prelude.{◌≡◌, ◌↔◌, true, false, Bool, List, Some, IsTrue};
+ghost use Rattle.std.specs.Prelude.{◌≡◌, ◌↔◌, ◌&&◌, ℕ, true, false, Bool, List, Some, IsTrue};
 ghost use Rattle.std.specs.List.{list_any};
 ghost use Rattle.isl_meter.specs.Gauge.{limit_of};
 ghost use Rattle.isl_space.specs.Element.{Element};
@@ -17,10 +17,11 @@ ghost use Rattle.isl_eval.specs.Listed.{IsListed};
 ghost use Rattle.isl_eval.specs.Ended.{IsAssumedWhereNeeded, StatementEnds};
 ghost use Rattle.isl_eval.specs.Machine.{Shows, ShowsValue, listed, told};
 ghost use Rattle.isl_eval.specs.Evaluated.{works, IsEvaluable};
+ghost use Rattle.isl_eval.specs.Claims.{ProvesTest};
 ghost use Rattle.isl_eval.specs.Tests.{TestHolds};
 ghost use Rattle.isl_eval.specs.Evaluation as spec;
 ghost use Rattle.isl_eval.specs.Evaluation.{EndsListing, EndsTest, IsMakeable, IsReadyTest};
-ghost use Rattle.isl_eval.specs.Evaluation.{IsOutcome, past_row};
+ghost use Rattle.isl_eval.specs.Evaluation.{IsOutcome, names_tested, past_row};
 
 use crate::answers::Answer;
 use crate::kept::content;
@@ -87,23 +88,28 @@ fn value_shown(
     Ok(Answer::of_kept(alloc, &kept)?)
 }
 
-// The line that tells whether a test holds.
+// The line that tells whether a test holds, and the lines of its claims where it does and they are asked for.
 fn truth_shown(
     alloc: Global,
     first: &Expr,
     before: &[Link],
     last: &Link,
     state: &State,
+    asked: bool,
     meter: &mut Meter,
 ) -> Result<Answer, Refusal>
     requires ready { IsReadyTest (scope_of state.now) first.now before.now last.now }
     requires fits { Fits (limit_of meter.old) state.now }
     ensures { IsOutcome true (EndsTest state.now first.now before.now last.now) meter.old meter.new
-        (λ answer. (holds : Bool) × (IsTrue holds ↔ TestHolds state.now last.now.operator (past_row state.now first.now before.now)
-        (Selects state.now last.now.operand)) × (answer ≡ told holds)) result }
+        (λ answer. (holds : Bool) × (lines : List ℕ)
+        × (IsTrue holds ↔ TestHolds state.now last.now.operator (past_row state.now first.now before.now)
+        (Selects state.now last.now.operand))
+        × ProvesTest (holds && asked) state.now (names_tested (scope_of state.now) first.now before.now last.now) last.now.operator
+        (past_row state.now first.now before.now) (Selects state.now last.now.operand) lines
+        × (answer ≡ told holds lines)) result }
 {
-    let holds = tested(alloc, first, before, last, state, meter)?;
-    Ok(Answer::of_truth(alloc, holds)?)
+    let verdict = tested(alloc, first, before, last, state, asked, meter)?;
+    Ok(Answer::of_truth(alloc, verdict.holds, verdict.lines.as_str())?)
 }
 
 // Whether a word asks for elements or loops, and for no value.
@@ -157,7 +163,10 @@ fn asked_shown(
             }
         }
         Expr::Row(first, links) => match links.as_slice().split_last() {
-            Some((last, before)) => truth_shown(alloc, first.get(), before, last, state, meter),
+            Some((last, before)) => {
+                let asked = options.cert();
+                truth_shown(alloc, first.get(), before, last, state, asked, meter)
+            }
             None => unreachable!(),
         },
         _ => unreachable!(),

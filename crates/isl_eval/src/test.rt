@@ -1,6 +1,6 @@
 //! Tests: what values say of one another.
 
-ghost use Rattle.std.specs.Prelude.{◌≡◌, ◌↔◌, true, IfOk, IsTrue, unsigned_abs};
+ghost use Rattle.std.specs.Prelude.{◌≡◌, ◌↔◌, ◌&&◌, true, IfOk, IsTrue, string_bytes, unsigned_abs};
 ghost use Rattle.isl_meter.specs.Gauge.{limit_of};
 ghost use Rattle.isl_space.specs.Names.{joined};
 ghost use Rattle.isl_union.specs.Compare.{IsSubset};
@@ -9,9 +9,13 @@ ghost use Rattle.isl_union.specs.Numbers.{IsWithinLimit};
 ghost use Rattle.isl_values.specs.State.{scope_of, Fits, HasNumbersUpTo};
 ghost use Rattle.isl_values.specs.Made.{refusal_of_fault};
 ghost use Rattle.isl_values.specs.Selection.{Selects};
+ghost use Rattle.isl_kinds.specs.Typed.{joined_names};
+ghost use Rattle.isl_eval.specs.Claims.{ProvesTest};
 ghost use Rattle.isl_eval.specs.Tests.{is_test, TestHolds};
-ghost use Rattle.isl_eval.specs.Evaluation.{ends_with_test, EndsTest, EndsTwo, IsOutcome, IsReadyTest, IsTestOf, Tells, past_row};
+ghost use Rattle.isl_eval.specs.Evaluation.{ends_with_test, names_tested, past_row};
+ghost use Rattle.isl_eval.specs.Evaluation.{EndsTest, EndsTwo, IsOutcome, IsReadyTest, IsTestOf, Tells};
 
+use crate::claims::claims_proved;
 use isl_meter::Meter;
 use isl_refusal::Refusal;
 use isl_tree::statement::{Binary, Expr, Link};
@@ -128,23 +132,72 @@ fn told(
     }
 }
 
-/// Whether the test at the end of a row holds, at every assumed valuation.
+/// Whether a test holds, and the lines behind its answer.
+#[derive(Drop)]
+pub(crate) struct Verdict {
+    pub holds: bool,
+    pub lines: String,
+}
+
+// Whether lines stand behind the answer to a test.
+fn are_shown(holds: bool, asked: bool) -> bool
+    ensures { result ≡ (holds && asked) }
+{
+    holds && asked
+}
+
+// Whether a test of two values holds, with the lines of its claims where it does and they are asked for.
+fn told_with(
+    alloc: Global,
+    test: Binary,
+    left: Rc<Value>,
+    right: Rc<Value>,
+    state: &State,
+    asked: bool,
+    meter: &mut Meter,
+) -> Result<Verdict, Refusal>
+    requires test { is_test test ≡ true }
+    requires left { HasNumbersUpTo (unsigned_abs (limit_of meter.old)) left.value }
+    requires right { HasNumbersUpTo (unsigned_abs (limit_of meter.old)) right.value }
+    requires left_kept { IsKeptValue left.value }
+    requires right_kept { IsKeptValue right.value }
+    requires fits { Fits (limit_of meter.old) state.now }
+    ensures { IsOutcome true (EndsTwo left.value right.value) meter.old meter.new
+        (λ verdict. (IsTrue verdict.holds ↔ TestHolds state.now test (Has left.value) (Has right.value))
+        × ProvesTest (verdict.holds && asked) state.now (joined_names left.value.params right.value.params) test (Has left.value)
+        (Has right.value) (string_bytes verdict.lines)) result }
+{
+    let holds = told(alloc, test, left.clone()?, right.clone()?, state, meter)?;
+    if !are_shown(holds, asked) {
+        let lines = String::new(alloc);
+        return Ok(Verdict { holds, lines });
+    }
+    let lines = claims_proved(alloc, test, left, right, state, meter)?;
+    Ok(Verdict { holds, lines })
+}
+
+/// Whether the test at the end of a row holds, at every assumed valuation; with the lines of its claims where it does and they are asked
+/// for.
 pub(crate) fn tested(
     alloc: Global,
     first: &Expr,
     before: &[Link],
     last: &Link,
     state: &State,
+    asked: bool,
     meter: &mut Meter,
-) -> Result<bool, Refusal>
+) -> Result<Verdict, Refusal>
     requires ready { IsReadyTest (scope_of state.now) first.now before.now last.now }
     requires fits { Fits (limit_of meter.old) state.now }
     ensures { IsOutcome true (EndsTest state.now first.now before.now last.now) meter.old meter.new
-        (λ holds. IsTrue holds ↔ TestHolds state.now last.now.operator (past_row state.now first.now before.now)
-        (Selects state.now last.now.operand)) result }
+        (λ verdict. (IsTrue verdict.holds ↔ TestHolds state.now last.now.operator (past_row state.now first.now before.now)
+        (Selects state.now last.now.operand))
+        × ProvesTest (verdict.holds && asked) state.now (names_tested (scope_of state.now) first.now before.now last.now)
+        last.now.operator (past_row state.now first.now before.now) (Selects state.now last.now.operand) (string_bytes verdict.lines))
+        result }
 {
     let left = value_of(alloc, first, state, meter)?;
     let left = joined_past(alloc, left, before, state, meter)?;
     let right = value_of(alloc, &last.operand, state, meter)?;
-    told(alloc, last.operator, left, right, state, meter)
+    told_with(alloc, last.operator, left, right, state, asked, meter)
 }

@@ -123,7 +123,7 @@ normal_in_order rows divisors normal =
     IsNormal-from (in_order row_before rows) (All-in_order row_before (λ r. normal_row r ≡ Kept r) rows normal.settled) (All-in_order row_before (λ r. HasModulus r.kind r.k) rows divisors) (apart_in_order rows apart)
 
 -- ---- pieces and values
-kept_in_order : (params : List Name) (piece : KeptPiece) → IsKeptPiece params piece → IsKeptPiece params (ordered_piece piece)
+pub kept_in_order : (params : List Name) (piece : KeptPiece) → IsKeptPiece params piece → IsKeptPiece params (ordered_piece piece)
 kept_in_order params piece kept =
     let formed : Row → Type 0 = IsWellFormed (length piece.definitions + columns_of params piece.space) in
     record {
@@ -160,11 +160,19 @@ piece_texts-ordered params (piece ∷ pieces) =
     ap (λ t. t ∷ map (piece_text params) (map ordered_piece pieces)) (piece_text-ordered params piece)
     ∙ ap (λ ts. piece_text params piece ∷ ts) (piece_texts-ordered params pieces)
 
+pub rows_twice : (rows : List Row) → in_order row_before (in_order row_before rows) ≡ in_order row_before rows
+rows_twice rows = in_order-twice row_before rows_ranked rows
+
+pub pieces_twice : (pieces : List KeptPiece) → in_order piece_before (map ordered_piece (in_order piece_before pieces))
+    ≡ map ordered_piece (in_order piece_before pieces)
+pieces_twice pieces =
+    sym (map-in_order ordered_piece piece_before (in_order piece_before pieces))
+    ∙ ap (map ordered_piece) (in_order-twice piece_before pieces_ranked pieces)
+
 pub printed-ordered : (value : KeptValue) → printed (ordered value) ≡ printed value
 printed-ordered value =
     let pieces = in_order piece_before value.pieces in
-    let again : in_order piece_before (map ordered_piece pieces) ≡ map ordered_piece pieces = sym (map-in_order ordered_piece piece_before pieces) ∙ ap (map ordered_piece) (in_order-twice piece_before pieces_ranked value.pieces) in
-    ap (λ ps. params_text value.params ++ pieces_text (map (piece_text value.params) ps)) again
+    ap (λ ps. params_text value.params ++ pieces_text (map (piece_text value.params) ps)) (pieces_twice value.pieces)
     ∙ ap (λ ts. params_text value.params ++ pieces_text ts) (piece_texts-ordered value.params pieces)
 
 module _ (params : List Name) (valuation : Valuation) (element : Element) where

@@ -33,7 +33,8 @@ abbrev pub make_row : ℕ → List ℕ → Place → Row
 make_row status text place = record { status = status; text = text; place = place }
 
 abbrev pub row_of : Refusal → Row
-row_of Usage = make_row 2 (codes "usage: iscc [--bits B] [--budget N] [--at NAME=INT,..] [--run] [--make N] [--keep-going]") at_words
+row_of Usage =
+    make_row 2 (codes "usage: iscc [--bits B] [--budget N] [--at NAME=INT,..] [--run] [--make N] [--keep-going] [--cert]") at_words
 row_of Syntax = make_row 3 (codes "syntax error") in_statement
 row_of UnknownName = make_row 4 (codes "unknown name") in_statement
 row_of WrongKind = make_row 5 (codes "wrong kind of operand") in_statement

@@ -89,7 +89,7 @@ impl Refusal {
         match self {
             Refusal::Usage => new_row(
                 2,
-                "usage: iscc [--bits B] [--budget N] [--at NAME=INT,..] [--run] [--make N] [--keep-going]",
+                "usage: iscc [--bits B] [--budget N] [--at NAME=INT,..] [--run] [--make N] [--keep-going] [--cert]",
                 false,
             ),
             Refusal::Syntax => new_row(3, "syntax error", true),

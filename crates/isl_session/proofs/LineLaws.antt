@@ -7,7 +7,7 @@ use Rattle.isl_refusal.specs.declared.refusal.Refusal.TheVariants.{Unfinished, O
 use Rattle.isl_refusal.specs.declared.refusal.Refusal.TheVariants.{ScriptTooLong, NoElement, NoValuation, NotAssumed}
 use Rattle.isl_refusal.specs.Refusal.{text_of}
 
-pub text_is_short : (refusal : Refusal) → length (text_of refusal) ≤ 88
+pub text_is_short : (refusal : Refusal) → length (text_of refusal) ≤ 120
 text_is_short Usage = omega arith
 text_is_short Syntax = omega arith
 text_is_short UnknownName = omega arith

@@ -29,10 +29,10 @@ pub(crate) fn write_all<K: Sink>(out: &mut K, text: &[u8]) -> Result<(), Failed>
 }
 
 // A line on the stack, with room for each that is told.
-type Line = ArrayVec<u8, 128>;
+type Line = ArrayVec<u8, 160>;
 
 fn push(line: &mut Line, text: &[u8])
-    requires { length line.old.items + length text.now ≤ 128 }
+    requires { length line.old.items + length text.now ≤ 160 }
     ensures { line.new.items ≡ line.old.items ++ text.now }
 {
     line.try_extend_from_slice(text).unwrap();

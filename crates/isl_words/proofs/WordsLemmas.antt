@@ -53,7 +53,8 @@ chooses_once rows a b first second =
     (subst (λ (n : ℕ). AreGiven (2 ^ n - 1) (first_of (codes "at") rows) a.at) bits first.at) second.at in
     let make : a.make ≡ b.make = some_same a.make b.make (sym first.make ∙ second.make) in
     let keep_going : a.keep_going ≡ b.keep_going = sym first.keep_going ∙ second.keep_going in
-    λ i. record { bits = bits i; budget = budget i; at = at i; run = run i; make = make i; keep_going = keep_going i }
+    let cert : a.cert ≡ b.cert = sym first.cert ∙ second.cert in
+    λ i. record { bits = bits i; budget = budget i; at = at i; run = run i; make = make i; keep_going = keep_going i; cert = cert i }
 
 pub taken_once : (words : List Text) (a b : OptionsView) → AreTaken words a → AreTaken words b → a ≡ b
 taken_once words a b first second = chooses_once (matches_of command words) a b first.chosen second.chosen

@@ -31,7 +31,7 @@ abbrev pub most_made : ℕ
 most_made = 1000
 
 -- the bits of numbers; the units that a statement may use; the numbers of parameters; whether loops are run; for how many sizes a script
--- is made, where the source's is not read; whether refused statements are skipped
+-- is made, where the source's is not read; whether refused statements are skipped; whether each `True` is followed by its proofs
 pub record OptionsView : Type 0 where
   pub bits : ℕ
   pub budget : ℕ
@@ -39,6 +39,7 @@ pub record OptionsView : Type 0 where
   pub run : Bool
   pub make : Option ℕ
   pub keep_going : Bool
+  pub cert : Bool
 
 -- identifiers, each with one number, whose magnitude is at most the limit
 pub record AreNumbers (limit : ℕ) (at : List (Name × ℤ)) : Type 0 where

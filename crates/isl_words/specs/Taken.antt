@@ -15,11 +15,12 @@ use Rattle.isl_words.specs.Options.{OptionsView, least_bits, most_bits, usual_bi
 use Rattle.isl_words.specs.Options.{least_made, most_made}
 
 -- ---- the table
--- each option's name, and whether a value stands behind it: `[--bits B] [--budget N] [--at NAME=INT,..] [--run] [--make N] [--keep-going]`
+-- each option's name, and whether a value stands behind it: `[--bits B] [--budget N] [--at NAME=INT,..] [--run] [--make N] [--keep-going]
+-- [--cert]`
 abbrev pub table : List (Text × Bool)
 table =
     (codes "bits", true) ∷ (codes "budget", true) ∷ (codes "at", true) ∷ (codes "run", false) ∷ (codes "make", true)
-    ∷ (codes "keep-going", false) ∷ []
+    ∷ (codes "keep-going", false) ∷ (codes "cert", false) ∷ []
 
 -- `--name VALUE` or `--name`
 abbrev pub rule : Text × Bool → Rule
@@ -72,6 +73,7 @@ pub record Chooses (rows : List Row) (options : OptionsView) : Type 0 where
   pub run : is_set (first_of (codes "run") rows) ≡ options.run
   pub make : make_of (first_of (codes "make") rows) ≡ Some options.make
   pub keep_going : is_set (first_of (codes "keep-going") rows) ≡ options.keep_going
+  pub cert : is_set (first_of (codes "cert") rows) ≡ options.cert
 
 -- ---- the words
 -- `--`, behind which no word is an option

@@ -26,18 +26,20 @@ pub(crate) const MIN_MADE: u128 = 1;
 pub(crate) const MAX_MADE: u128 = 1000;
 
 // The option table: each option's name, and whether a value stands behind it.
-pub(crate) const TABLE: [(&str, bool); 6] = [
+pub(crate) const TABLE: [(&str, bool); 7] = [
     ("bits", true),
     ("budget", true),
     ("at", true),
     ("run", false),
     ("make", true),
     ("keep-going", false),
+    ("cert", false),
 ];
 
 /// What a session works with. Numbers have magnitudes of at most `2^bits - 1`, and a statement may use `budget` units of work. `at` gives
 /// parameters their numbers where elements are listed and loops are run; `run` asks for the calls of loops in place of their text. `make`
-/// asks for the script that is made for so many sizes, in place of one that is read; `keep_going` asks that refused statements are skipped.
+/// asks for the script that is made for so many sizes, in place of one that is read; `keep_going` asks that refused statements are skipped,
+/// `cert` that each `True` is followed by its proofs.
 #[derive(Drop)]
 pub struct Options {
     pub(crate) bits: u32,
@@ -46,6 +48,7 @@ pub struct Options {
     pub(crate) run: bool,
     pub(crate) make: Option<u64>,
     pub(crate) keep_going: bool,
+    pub(crate) cert: bool,
 }
 
 impl Model for Options {
@@ -60,6 +63,7 @@ impl Model for Options {
       run = o.run;
       make = o.make;
       keep_going = o.keep_going;
+      cert = o.cert;
     } };
 
     ghost invariant = { λ o. AreInRange o.bits o.budget o.at.items o.make };
@@ -107,5 +111,12 @@ impl Options {
         ensures { result ≡ self.now.keep_going }
     {
         self.keep_going
+    }
+
+    /// Whether each `True` is followed by its proofs.
+    pub fn cert(&self) -> bool
+        ensures { result ≡ self.now.cert }
+    {
+        self.cert
     }
 }

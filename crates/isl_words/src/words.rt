@@ -120,6 +120,8 @@ fn options_in(alloc: Global, matches: &ArgMatches<'_>) -> Result<Options, WordsF
     };
     let keep_going_given = value_of(matches, "keep-going");
     let keep_going = is_set(keep_going_given);
+    let cert_given = value_of(matches, "cert");
+    let cert = is_set(cert_given);
     Ok(Options {
         bits,
         budget: budget as u64,
@@ -127,6 +129,7 @@ fn options_in(alloc: Global, matches: &ArgMatches<'_>) -> Result<Options, WordsF
         run,
         make,
         keep_going,
+        cert,
     })
 }
 

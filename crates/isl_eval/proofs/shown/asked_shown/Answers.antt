@@ -81,8 +81,8 @@ returns-in-Some c =
     (EndsTest c.args.state.now c.get.result.now c.in-Some.before.now c.in-Some.last.now)
     (StatementEnds before (Show c.args.expr.now)) _ _ c.args.meter.now c.truth_shown.new.meter (λ none. works ∙ none)
     (test_ends before c.args.expr.now c.get.result.now c.in-Some.before.now c.in-Some.last.now row)
-    (λ line h. shows_test before c.args.expr.now c.get.result.now _ c.in-Some.before.now c.in-Some.last.now line h.0 row refl
-    (sym test) h.1 h.2)
+    (λ line h. shows_test before c.args.expr.now c.get.result.now _ c.in-Some.before.now c.in-Some.last.now line
+    c.cert-asked.result c.cert-asked.ensures row refl (sym test) h)
     c.truth_shown.ensures
 
 pub unreachable-requires : goal.unreachable-requires

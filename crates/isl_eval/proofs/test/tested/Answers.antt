@@ -1,4 +1,4 @@
-use Rattle.std.proofs.Common.{refl, rules}
+use Rattle.std.proofs.Common.{◌&&◌, refl, rules, string_bytes}
 use Rattle.isl_meter.proofs.CutLemmas.{IsCharged_refl, IsCharged_trans}
 use Rattle.isl_union.specs.KeptValue.{Has}
 use Rattle.isl_values.specs.Ends.{Ends, EndsRow}
@@ -7,6 +7,7 @@ use Rattle.isl_values.proofs.ValueLaws.{fits_later, numbers_later}
 use Rattle.isl_eval.specs.Evaluation.{EndsTest, EndsTwo}
 use Rattle.isl_eval.proofs.TestLaws.{refused, test_names, tested_is, unworked_on}
 use Rattle.isl_eval.proofs.EndsLaws.{first_ends, past_ends, right_ends, test_forms, two_ends, two_go}
+use Rattle.isl_eval.proofs.ProvedLaws.{tested_proved}
 use Rattle.isl_eval.proofs.ShownLaws.{outcome_after}
 use Rattle.isl_eval.proofs.test.tested.Goals as goal
 
@@ -26,19 +27,19 @@ value_of-requires-2-clause-fits c =
     c.in_ok-left-2.ensures.made.1.charged)
     c.requires.fits
 
-pub told-requires-clause-left : goal.told-requires-clause-left
-told-requires-clause-left c =
+pub told_with-requires-clause-left : goal.told_with-requires-clause-left
+told_with-requires-clause-left c =
     numbers_later c.joined_past.new.meter c.value_of-2.new.meter c.in_ok-left-2.left.value c.in_ok-right.ensures.made.1.charged
     (numbers_later c.value_of.new.meter c.joined_past.new.meter c.in_ok-left-2.left.value c.in_ok-left-2.ensures.made.1.charged
     c.in_ok-left-2.ensures.made.0.numbers)
 
-pub told-requires-clause-right : goal.told-requires-clause-right
-told-requires-clause-right c =
+pub told_with-requires-clause-right : goal.told_with-requires-clause-right
+told_with-requires-clause-right c =
     numbers_later c.joined_past.new.meter c.value_of-2.new.meter c.in_ok-right.right.value c.in_ok-right.ensures.made.1.charged
     c.in_ok-right.ensures.made.0.numbers
 
-pub told-requires-clause-fits : goal.told-requires-clause-fits
-told-requires-clause-fits c =
+pub told_with-requires-clause-fits : goal.told_with-requires-clause-fits
+told_with-requires-clause-fits c =
     fits_later c.args.meter.now c.value_of-2.new.meter c.args.state.now
     (IsCharged_trans c.args.meter.now c.value_of.new.meter c.value_of-2.new.meter c.in_ok-left.ensures.made.1.charged
     (IsCharged_trans c.value_of.new.meter c.joined_past.new.meter c.value_of-2.new.meter c.in_ok-left-2.ensures.made.1.charged
@@ -55,18 +56,24 @@ returns c =
     let names = test_names (scope_of state) c.args.first.now c.args.before.now c.args.last.now left.left.value
     c.in_ok-left-2.left.value c.in_ok-right.right.value left.ensures.made.0.params c.in_ok-left-2.ensures.made.0.params
     c.in_ok-right.ensures.made.0.params in
-    outcome_after c.told.result (EndsTwo c.in_ok-left-2.left.value c.in_ok-right.right.value)
-    (EndsTest state c.args.first.now c.args.before.now c.args.last.now) _ _ c.args.meter.now c.value_of-2.new.meter c.told.new.meter charged
+    outcome_after c.told_with.result (EndsTwo c.in_ok-left-2.left.value c.in_ok-right.right.value)
+    (EndsTest state c.args.first.now c.args.before.now c.args.last.now) _ _ c.args.meter.now c.value_of-2.new.meter
+    c.told_with.new.meter charged
     (two_ends state c.args.first.now c.args.before.now c.args.last.now left.left.value left.ensures.made.0.params
     left.ensures.made.0.elements left.ensures.goes_on c.in_ok-left-2.ensures.goes_on c.in_ok-right.ensures.goes_on
     (test_forms c.args.last.now.operator c.requires.ready.test) _ names)
     (two_go state c.args.first.now c.args.before.now c.args.last.now left.left.value left.ensures.made.0.params
     left.ensures.made.0.elements left.ensures.goes_on c.in_ok-left-2.ensures.goes_on c.in_ok-right.ensures.goes_on
     (test_forms c.args.last.now.operator c.requires.ready.test) _ names)
-    (λ holds is. tested_is state c.args.last.now.operator c.args.first.now c.args.last.now.operand c.args.before.now left.left.value
-    c.in_ok-left-2.left.value c.in_ok-right.right.value holds left.ensures.made.0.elements c.in_ok-left-2.ensures.made.0.elements
-    c.in_ok-right.ensures.made.0.elements is)
-    c.told.ensures
+    (λ verdict is. (
+      tested_is state c.args.last.now.operator c.args.first.now c.args.last.now.operand c.args.before.now left.left.value
+          c.in_ok-left-2.left.value c.in_ok-right.right.value verdict.holds left.ensures.made.0.elements
+          c.in_ok-left-2.ensures.made.0.elements c.in_ok-right.ensures.made.0.elements is.0,
+      tested_proved state c.args.last.now.operator c.args.first.now c.args.last.now.operand c.args.before.now left.left.value
+          c.in_ok-left-2.left.value c.in_ok-right.right.value (verdict.holds && c.args.asked) _ _ names left.ensures.made.0.elements
+          c.in_ok-left-2.ensures.made.0.elements c.in_ok-right.ensures.made.0.elements (string_bytes verdict.lines) is.1,
+    ))
+    c.told_with.ensures
 
 pub returns-in_err-left : goal.returns-in_err-left
 returns-in_err-left c =

@@ -1,0 +1,4 @@
+pub mod SideLaws
+pub mod ProofLaws
+pub mod FoundLaws
+pub mod TextLaws
