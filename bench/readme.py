@@ -129,10 +129,6 @@ TOLD = [
     ("19 to 22 end the run", "scan { [i] : 0 <= i < 7000000 }; { };", 21, "iscc: statement 1: out of memory\n", "--keep-going"),
     ("floors in a map joined with its inverse, shown or bound", "C := { M[x] -> S[floor(x/64) mod 64] }; c := C . C^-1;", 18, None, "--budget", "5000"),
     ("write the quotient", "C := { M[x, q] -> S[q mod 64] : 64q <= x < 64q + 64 }; c := C . C^-1;", 0, "", "--budget", "5000"),
-    ("remainders without their quotients in a schedule",
-     f"{NEST} any W before W under {{ S[i,j] -> [i mod 32, j mod 32, i, j] }};", 21, None),
-    ("of `any`, bind it to a name", f"{NEST} T := {{ S[i,j] -> [i mod 32, j mod 32, i, j] }}; any W before W under T;", 0, None),
-    ("of `last`, write it in place", f"{NEST} f := last W before W under {{ S[i,j] -> [i mod 32, i, j] }};", 0, ""),
     ("if it is answered, the wrong one comes later", "{ }; { here[] }; { [0:3] };", 3, "{ }\n{ here[] }\niscc: statement 3: syntax error\n"),
     ("many `!=` between coordinates", "{ [i,j] : " + " and ".join(f"i != {n}j" for n in range(20)) + " };", 18, None, "--budget", "3000"),
     ("`any`, `last`, `<<` leave such pairs out without a word",
@@ -158,7 +154,7 @@ COMMANDS = [
     ("`man ./iscc.1`", f"test -r {TOP}/iscc.1", [], 0),
     ("`examples/README.md`", f"test -r {TOP}/examples/README.md", [], 0),
 ]
-OPTIONS = {"--at": "n=4,m=-1", "--run": None, "--keep-going": None, "--bits": "8", "--budget": str(10**12), "--make": "1000"}
+OPTIONS = {"--at": "n=4,m=-1", "--run": None, "--keep-going": None, "--cert": None, "--bits": "8", "--budget": str(10**12), "--make": "1000"}
 found = []
 
 
