@@ -1,7 +1,7 @@
 -- How many nodes a proof may have where no more units are to be used than difference constraints may cost.
-use Rattle.std.proofs.Common.{◌≡◌, ◌∙◌, ◌≤◌, ◌+◌, ◌*◌, ◌^◌, refl, sym, subst, arith, ℕ, zero, suc, Bool, false, List, ◌∷◌, Result}
+use Rattle.std.proofs.Common.{◌≡◌, ◌↔◌, ◌∙◌, ◌≤◌, ◌+◌, ◌*◌, ◌^◌, refl, sym, subst, arith, ℕ, zero, suc, Bool, false, List, ◌∷◌, Result}
 use Rattle.std.specs.Prelude.{IsTrue}
-use Rattle.std.proofs.Math.Nat.{add-mul, mul-le-mul_left, mul-le-mul_right, one-mul, pow-zero}
+use Rattle.std.proofs.Math.Nat.{add-mul, mul-le-mul, mul-le-mul_left, mul-le-mul_right, one-mul, pow-zero}
 use Rattle.std.specs.List.{All}
 use Rattle.std.proofs.lemmas.Bool.{true≢false}
 use Rattle.std.proofs.lemmas.List.Elements.{All-head, All-tail, All-weaker}
@@ -17,14 +17,7 @@ use Rattle.isl_difference.proofs.TameLaws.{left_size_next, left_work_allowed, le
 use Rattle.isl_difference.specs.Tame.{left_work, part_limit}
 use Rattle.isl_piece.specs.declared.row.Row.{Row}
 use Rattle.isl_piece.specs.declared.system.System.{System}
-use Rattle.isl_cert.specs.Bound.{node_limit, proof_work, question_work, IsSmall}
-
--- ---- numbers
-product_more : (a b c d : ℕ) → a ≤ c → b ≤ d → a * b ≤ c * d
-product_more a b c d l m =
-    let x = mul-le-mul_right {m = a} {n = c} b l in
-    let y = mul-le-mul_left {m = b} {n = d} c m in
-    omega (arith, x, y)
+use Rattle.isl_cert.specs.Bound.{node_limit, proof_work, question_work, IsComparing}
 
 -- ---- what is asked
 -- what is left of each part without one more
@@ -78,34 +71,34 @@ rows_up_to c more forms both rows l m n o =
 pub each_up_to : (c rows pairs all each : ℕ) → rows ≤ row_limit c → pairs ≤ rows * rows → all ≤ c * pairs → each ≤ all + 1
     → each ≤ 1 + c * pair_limit c
 each_up_to c rows pairs all each l m n o =
-    let square = product_more rows rows (row_limit c) (row_limit c) l l in
+    let square = mul-le-mul l l in
     let wide = mul-le-mul_left {m = pairs} {n = pair_limit c} c (omega (arith, square)) in
     omega (arith, wide)
 
 pub parts_next : (c i parts step new : ℕ) → parts ≤ part_limit c i → step ≤ 2 * row_limit c → new ≤ parts * step
     → new ≤ part_limit c (i + 1)
 parts_next c i parts step new l m n =
-    let wide = product_more parts step (part_limit c i) (2 * row_limit c) l m in
+    let wide = mul-le-mul l m in
     let next = parts_turn c i in
     omega (arith, wide, next)
 
 pub nodes_up_to : (c q parts each result : ℕ) → parts ≤ part_limit c q → each ≤ 1 + c * pair_limit c → result ≤ parts * each
     → result ≤ node_limit c q
 nodes_up_to c q parts each result l m n =
-    let wide = product_more parts each (part_limit c q) (1 + c * pair_limit c) l m in
+    let wide = mul-le-mul l m in
     omega (arith, wide)
 
 -- ---- difference constraints
-pub row_small : (bits : ℕ) (r : Row) → IsDifferenceRow bits r → IsSmall r
-row_small bits r d = record { kind = d.kind; coefs = (units_from_comparison r.coefs d.first d.second d.compares).small }
+pub row_comparing : (bits : ℕ) (r : Row) → IsDifferenceRow bits r → IsComparing r
+row_comparing bits r d = record { kind = d.kind; units = units_from_comparison r.coefs d.first d.second d.compares }
 
-pub rows_small : (bits : ℕ) (rows : List Row) → All (IsDifferenceRow bits) rows → All IsSmall rows
-rows_small bits rows all = All-weaker (IsDifferenceRow bits) IsSmall (row_small bits) rows all
+pub rows_comparing : (bits : ℕ) (rows : List Row) → All (IsDifferenceRow bits) rows → All IsComparing rows
+rows_comparing bits rows all = All-weaker (IsDifferenceRow bits) IsComparing (row_comparing bits) rows all
 
-pub systems_small : (columns bits : ℕ) (systems : List System) → All (IsDifferenceSystem columns bits) systems
-    → All (λ s. All IsSmall s.rows) systems
-systems_small columns bits systems all =
-    All-weaker (IsDifferenceSystem columns bits) (λ s. All IsSmall s.rows) (λ s d. rows_small bits s.rows d.rows) systems all
+pub systems_comparing : (columns bits : ℕ) (systems : List System) → All (IsDifferenceSystem columns bits) systems
+    → All (λ s. All IsComparing s.rows) systems
+systems_comparing columns bits systems all =
+    All-weaker (IsDifferenceSystem columns bits) (λ s. All IsComparing s.rows) (λ s d. rows_comparing bits s.rows d.rows) systems all
 
 -- ---- steps of the question
 pub question_is : (c q : ℕ) → c * (c * c) + q * (c * (c * c)) + left_work c q ≤ question_work c q
@@ -130,14 +123,14 @@ within_limit c q most g h P result l tame =
     tame_then 0 (most + most) (node_limit c q + node_limit c q) g g h P result (IsCharged_refl g g refl) (omega arith) (omega (arith, l))
     tame
 
--- rows that are small are not told otherwise
-pub not_small : {B : Type 0} (columns bits : ℕ) (system : System) (outs : List System) (small : Bool)
-    → (All IsSmall system.rows → All (λ out. All IsSmall out.rows) outs → IsTrue small) → small ≡ false
+-- rows that compare are not told otherwise
+pub not_comparing : {B : Type 0} (columns bits : ℕ) (system : System) (outs : List System) (told : Bool)
+    → IsTrue told ↔ (All IsComparing system.rows × All (λ out. All IsComparing out.rows) outs) → told ≡ false
     → All (IsDifferenceSystem columns bits) (system ∷ outs) → B
-not_small columns bits system outs small told none all =
+not_comparing columns bits system outs told surely none all =
     let own = All-head (IsDifferenceSystem columns bits) system outs all in
     let others = All-tail (IsDifferenceSystem columns bits) system outs all in
-    absurd (true≢false (sym (told (rows_small bits system.rows own.rows) (systems_small columns bits outs others)) ∙ none))
+    absurd (true≢false (sym (surely.1 (rows_comparing bits system.rows own.rows, systems_comparing columns bits outs others)) ∙ none))
 
 pub question_within : (c q : ℕ) → 0 + question_work c q ≤ proof_work c q
 question_within c q = let whole = work_allowed c q in omega (arith, whole)

@@ -1,6 +1,6 @@
 -- What is left, and what is covered.
-use Rattle.std.proofs.Common.{◌≡◌, ◌↔◌, refl, sym, ap, subst, arith, Bool, true, false, not, List, [], ◌∷◌, length, Option}
-use Rattle.std.proofs.Common.{Some, None}
+use Rattle.std.proofs.Common.{◌≡◌, ◌↔◌, refl, sym, ap, arith, Bool, true, false, not, List, [], ◌∷◌, length}
+use Rattle.std.proofs.Common.{Some}
 use Rattle.std.specs.Prelude.{IsNone, IsTrue}
 use Rattle.std.specs.List.{All}
 use Rattle.std.proofs.lemmas.Bool.{true≢false}
@@ -61,9 +61,6 @@ covered_left C false f g = ((λ t c. true≢false (sym (g c))), (λ n. refl))
 pub covered_told : (C : Type 0) (covered : Bool) → (IsTrue covered → C) → not covered ≡ false → C
 covered_told C true f e = f refl
 covered_told C false f e = absurd (true≢false e)
-
-pub none_told : {A : Type 0} (C : Type 0) (left : Bool) (o : Option A) → o ≡ None → left ≡ true → IsTrue left ↔ (¬ C) → IsNone o ↔ (¬ C)
-none_told C left o none yes' told = subst (λ p. IsNone p ↔ (¬ C)) (sym none) ((λ i. told.0 yes'), (λ n. refl))
 
 pub some_told : {A : Type 0} (C : Type 0) (x : A) → C → IsNone (Some x) ↔ (¬ C)
 some_told C x covered = ((λ i. absurd (true≢false i)), (λ n. absurd (n covered)))

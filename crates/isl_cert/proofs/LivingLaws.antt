@@ -1,14 +1,14 @@
 -- Of systems those that hold somewhere, one after another.
-use Rattle.std.proofs.Common.{◌≡◌, ◌↔◌, ◌∙◌, ◌≤◌, ◌<◌, ◌+◌, inl, inr, sym, subst, arith, ℕ, zero, suc, ℤ, List, [], ◌∷◌, ◌++◌}
+use Rattle.std.proofs.Common.{◌≡◌, ◌↔◌, ◌∙◌, ◌≤◌, ◌<◌, ◌+◌, inl, inr, sym, subst, arith, ℕ, ℤ, List, [], ◌∷◌, ◌++◌}
 use Rattle.std.proofs.Common.{length, take, get_or}
 use Rattle.std.proofs.Common.{All, Contains, length-append}
 use Rattle.std.proofs.lemmas.List.{take_all, take_more}
-use Rattle.std.proofs.lemmas.List.Elements.{All-contains, All-contains_itself, All-nil, All-push, All-weaker}
-use Rattle.std.proofs.lemmas.List.Elements.{at_from_Contains, Contains-append_left, Contains-push}
+use Rattle.std.proofs.lemmas.List.Elements.{All-contains, All-nil, All-push, All-weaker}
+use Rattle.std.proofs.lemmas.List.Elements.{Contains-append_left, Contains-push}
 use Rattle.std.proofs.lemmas.List.Quantifiers.{Any-push}
 use Rattle.std.specs.Prelude.{Any}
 use Rattle.isl_difference.specs.Difference.{IsCovered}
-use Rattle.isl_math.proofs.ListLaws.{Any-left, Any-parts}
+use Rattle.isl_math.proofs.ListLaws.{All-parts, Any-contains, Any-element, Any-left, Any-one, Any-parts}
 use Rattle.isl_piece.specs.declared.system.System.{System}
 use Rattle.isl_piece.specs.System.{HoldsSystem, free_columns}
 use Rattle.isl_ledger.specs.Difference.{IsDifferenceSystem}
@@ -17,20 +17,6 @@ use Rattle.isl_ledger.proofs.SizeLaws.{differences_of}
 use Rattle.isl_difference.proofs.TameLaws.{few_differences}
 use Rattle.isl_difference.specs.Tame.{HasFewDifferences}
 use Rattle.isl_cert.specs.Living.{AreLiving, HasPoint, IsPutLiving}
-
--- ---- lists
--- of the first of two lists
-pub all_first : (P : System → Type 0) (xs ys : List System) → All P (xs ++ ys) → All P xs
-all_first P xs ys all =
-    All-weaker (Contains xs) P (λ x in_it. All-contains P (xs ++ ys) x all (Contains-append_left xs ys x in_it)) xs (All-contains_itself xs)
-
--- of the one of a list
-at_one : (P : System → Type 0) (s : System) → Any P (s ∷ []) → P s
-at_one P s any = by any.0 any.1 any.2 any.3 any.4
-  where
-    by : (k : ℕ) (x : System) → k < length (s ∷ []) → get_or (s ∷ []) k x ≡ x → P x → P s
-    by zero x low is p = subst P (sym is) p
-    by (suc k) x low is p = absurd (omega (arith, low))
 
 -- ---- systems
 pub none_living : AreLiving [] []
@@ -51,7 +37,7 @@ module _ (systems old : List System) (s : System) (are : AreLiving systems old) 
 
   wide_first : (point : List ℤ) → All (λ t. free_columns t ≡ length point) (systems ++ s ∷ [])
       → All (λ t. free_columns t ≡ length point) systems
-  wide_first point wide = all_first (λ t. free_columns t ≡ length point) systems (s ∷ []) wide
+  wide_first point wide = (All-parts (λ t. free_columns t ≡ length point) systems (s ∷ []) wide).0
 
   living_more : (new : List System) → IsPutLiving s old new → AreLiving (systems ++ s ∷ []) new
   living_more new (inl dead) = subst (AreLiving (systems ++ s ∷ [])) (sym dead.1) (record {
@@ -60,7 +46,7 @@ module _ (systems old : List System) (s : System) (are : AreLiving systems old) 
     each = are.each;
     points = λ point wide any. elim (Any-parts (λ t. HoldsSystem t point) systems (s ∷ []) any) [
       | inl before ↦ are.points point (wide_first point wide) before
-      | inr last ↦ absurd (dead.0 point (wide_last point wide) (at_one (λ t. HoldsSystem t point) s last))
+      | inr last ↦ absurd (dead.0 point (wide_last point wide) (Any-one (λ t. HoldsSystem t point) s last))
     ];
   })
   living_more new (inr live) = subst (AreLiving (systems ++ s ∷ [])) (sym live.1) (record {
@@ -69,7 +55,7 @@ module _ (systems old : List System) (s : System) (are : AreLiving systems old) 
     each = All-push HasPoint old s are.each live.0;
     points = λ point wide any. elim (Any-parts (λ t. HoldsSystem t point) systems (s ∷ []) any) [
       | inl before ↦ Any-left (λ t. HoldsSystem t point) old (s ∷ []) (are.points point (wide_first point wide) before)
-      | inr last ↦ Any-push (λ t. HoldsSystem t point) old s (at_one (λ t. HoldsSystem t point) s last)
+      | inr last ↦ Any-push (λ t. HoldsSystem t point) old s (Any-one (λ t. HoldsSystem t point) s last)
     ];
   })
 
@@ -99,13 +85,10 @@ few_living columns bits systems living are all =
     All-weaker (IsDifferenceSystem columns bits) (HasFewDifferences columns bits) (λ s d. few_differences columns bits s d) living
     (of_living (IsDifferenceSystem columns bits) systems living are all)
 
--- what P holds of is one of the list
-any_contained : (P : System → Type 0) (systems : List System) (x : System) → Contains systems x → P x → Any P systems
-any_contained P systems x in_it p = let at = at_from_Contains systems x in_it in (at.0, x, at.1, at.2 x, p)
-
 any_living : (P : System → Type 0) (systems living : List System) → AreLiving systems living → Any P living → Any P systems
 any_living P systems living are any =
-    any_contained P systems any.1 (subst (Contains systems) any.3 (are.among any.0 any.1 any.2)) any.4
+    let it = Any-element P living any in
+    Any-contains P systems it.0 (All-contains (Contains systems) living it.0 are.among it.1) it.2
 
 pub covered_living : (system : System) (outs living : List System) → AreLiving outs living
     → All (λ out. free_columns out ≡ free_columns system) outs → IsCovered system living ↔ IsCovered system outs

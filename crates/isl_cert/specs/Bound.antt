@@ -1,7 +1,8 @@
 -- public: within how many units it is answered, with a proof, whether difference constraints have a point outside so many others. (Miné,
 -- difference-bound matrices; isl manual, on subtracting sets)
-use Rattle.std.specs.Prelude.{◌≡◌, ◌⊎◌, ◌≤◌, ℕ, ◌+◌, ◌*◌, All, unsigned_abs}
+use Rattle.std.specs.Prelude.{◌≡◌, ◌⊎◌, ℕ, ◌+◌, ◌*◌}
 use Rattle.isl_difference.specs.Tame.{left_work, part_limit}
+use Rattle.isl_ledger.specs.Difference.{AreUnitsAtMostOnce}
 use Rattle.isl_ledger.specs.Work.{allowance}
 use Rattle.isl_piece.specs.declared.row.Row.{Row}
 use Rattle.isl_piece.specs.declared.row.RowKind.TheVariants.{Zero, AtLeast}
@@ -18,7 +19,7 @@ proof_work columns outs = 8 * ((columns + 1) * node_limit columns outs)
 abbrev pub question_work : ℕ → ℕ → ℕ
 question_work columns outs = (1 + outs) * (columns * (columns * columns)) + left_work columns outs
 
--- an equation or a bound with coefficients 1, -1 and 0 alone
-pub record IsSmall (r : Row) : Type 0 where
+-- an equation or a bound that compares two columns, or one with a number, whatever its constant
+pub record IsComparing (r : Row) : Type 0 where
   pub kind : (r.kind ≡ Zero) ⊎ (r.kind ≡ AtLeast)
-  pub coefs : All (λ c. unsigned_abs c ≤ 1) r.coefs
+  pub units : AreUnitsAtMostOnce r.coefs

@@ -10,8 +10,8 @@ ghost use Rattle.isl_refute.specs.Passes.{nodes};
 ghost use Rattle.isl_refute.specs.Refutes.{refutes, rows_of};
 ghost use Rattle.isl_cert.specs.Bound.{node_limit, proof_work, question_work};
 
+use crate::comparing::{are_comparing, most_nodes};
 use crate::living::living_of;
-use crate::small::{are_small, most_nodes};
 use crate::within::{found_within, pay};
 use isl_difference::is_covered;
 use isl_elim::is_empty;
@@ -104,7 +104,7 @@ fn found(alloc: Global, system: &System, outs: &[System], meter: &mut Meter) -> 
         → IsTame (node_limit system.now.columns (length outs.now) + node_limit system.now.columns (length outs.now))
         meter.old meter.new (λ _. ⊤) result }
 {
-    if are_small(system, outs) {
+    if are_comparing(system, outs) {
         let most = most_nodes(system.columns, outs.len());
         return found_within(alloc, system, outs, most, meter);
     }
@@ -122,7 +122,7 @@ fn found(alloc: Global, system: &System, outs: &[System], meter: &mut Meter) -> 
 /// # Errors
 ///
 /// `Overflow` where a number passes the limit of the meter, `Budget` where its units are used up, and `NoMemory`, also where the search
-/// ends without a proof.
+/// ends without a proof; of rows that compare two columns, or one with a number, also where theirs has more nodes than `node_limit` says.
 #[tactic(auto, using(std::proofs::lemmas::Grind::common_steps, isl_meter::proofs::CutLemmas::charges))]
 pub fn certify(
     alloc: Global,

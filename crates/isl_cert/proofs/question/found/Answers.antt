@@ -1,7 +1,7 @@
 use Rattle.std.proofs.Common.{◌≡◌, ◌∙◌, sym, arith, rules, true, length}
 use Rattle.std.proofs.lemmas.Grind.{common_steps}
 use Rattle.isl_difference.proofs.SplitLaws.{charged_within}
-use Rattle.isl_cert.proofs.BoundLaws.{not_small, within_limit}
+use Rattle.isl_cert.proofs.BoundLaws.{not_comparing, within_limit}
 use Rattle.isl_cert.proofs.CertifyLaws.{later}
 use Rattle.isl_cert.proofs.question.found.Goals as goal
 
@@ -14,8 +14,8 @@ is_proof-requires c =
     let outs = later g h c.args.outs.now charged c.requires.outs in
     search (rules, own, outs, c.requires.columns, c.requires.plain, c.requires.plain_outs)
 
-pub returns-then-are_small-clause-tame : goal.returns-then-are_small-clause-tame
-returns-then-are_small-clause-tame c = λ bits all.
+pub returns-then-are_comparing-clause-tame : goal.returns-then-are_comparing-clause-tame
+returns-then-are_comparing-clause-tame c = λ bits all.
     let n = c.args.system.now.columns in
     let q = length c.args.outs.now in
     let most = c.most_nodes-most.ensures.limit in
@@ -36,16 +36,16 @@ returns-clause-units c =
 
 pub returns-clause-tame : goal.returns-clause-tame
 returns-clause-tame c = λ bits all.
-    not_small c.args.system.now.columns bits c.args.system.now c.args.outs.now c.are_small.result c.are_small.ensures (grind arith) all
+    not_comparing _ bits c.args.system.now c.args.outs.now c.are_comparing.result c.are_comparing.ensures (grind arith) all
 
 pub returns-then-not-says-clause-tame : goal.returns-then-not-says-clause-tame
 returns-then-not-says-clause-tame c = λ bits all.
-    not_small c.args.system.now.columns bits c.args.system.now c.args.outs.now c.are_small.result c.are_small.ensures (grind arith) all
+    not_comparing _ bits c.args.system.now c.args.outs.now c.are_comparing.result c.are_comparing.ensures (grind arith) all
 
 pub returns-in_err-cert-clause-tame : goal.returns-in_err-cert-clause-tame
 returns-in_err-cert-clause-tame c = λ bits all.
-    not_small c.args.system.now.columns bits c.args.system.now c.args.outs.now c.are_small.result c.are_small.ensures (grind arith) all
+    not_comparing _ bits c.args.system.now c.args.outs.now c.are_comparing.result c.are_comparing.ensures (grind arith) all
 
 pub returns-in_err-says-clause-tame : goal.returns-in_err-says-clause-tame
 returns-in_err-says-clause-tame c = λ bits all.
-    not_small c.args.system.now.columns bits c.args.system.now c.args.outs.now c.are_small.result c.are_small.ensures (grind arith) all
+    not_comparing _ bits c.args.system.now c.args.outs.now c.are_comparing.result c.are_comparing.ensures (grind arith) all

@@ -2,7 +2,8 @@
 
 ghost use Rattle.std.specs.Prelude.{◌↔◌, ◌+◌, ◌*◌, ◌^◌, ◌≤◌, ℕ, All, IsTrue, unsigned_abs};
 ghost use Rattle.isl_piece.specs.declared.system.System.{System};
-ghost use Rattle.isl_cert.specs.Bound.{node_limit, IsSmall};
+ghost use Rattle.isl_ledger.specs.Difference.{AreUnitsAtMostOnce, AtMostOnce};
+ghost use Rattle.isl_cert.specs.Bound.{node_limit, IsComparing};
 
 use isl_meter::Int;
 use isl_piece::{Row, RowKind, System};
@@ -21,49 +22,56 @@ fn is_short(number: i128) -> bool
 fn are_short(numbers: &[Int]) -> bool
     ensures { IsTrue result ↔ All (λ c. unsigned_abs c ≤ 1) numbers.now }
 {
+    numbers.iter().all(|number| is_short(number.get()))
+}
+
+// Whether the number stands at one place at most.
+fn is_at_most_once(sought: Int, numbers: &[Int]) -> bool
+    ensures { IsTrue result ↔ AtMostOnce sought numbers.now }
+{
+    let mut seen = false;
     for number in numbers {
-        if !is_short(number.get()) {
+        let here = number.get() == sought.get();
+        if here && seen {
             return false;
         }
+        seen = seen || here;
     }
     true
 }
 
-// Whether the row is an equation or a bound with coefficients 1, -1 and 0 alone.
-fn is_small(row: &Row) -> bool
-    ensures { IsTrue result ↔ IsSmall row.now }
+// Whether one number at most is 1, one at most -1, and all others are 0.
+fn are_units_at_most_once(numbers: &[Int]) -> bool
+    ensures { IsTrue result ↔ AreUnitsAtMostOnce numbers.now }
+{
+    are_short(numbers)
+        && is_at_most_once(Int::ONE, numbers)
+        && is_at_most_once(Int::new(-1), numbers)
+}
+
+// Whether the row is an equation or a bound that compares two columns, or one with a number.
+fn is_comparing(row: &Row) -> bool
+    ensures { IsTrue result ↔ IsComparing row.now }
 {
     match row.kind {
-        RowKind::Zero | RowKind::AtLeast => are_short(row.coefs.as_slice()),
+        RowKind::Zero | RowKind::AtLeast => are_units_at_most_once(row.coefs.as_slice()),
         RowKind::Divides | RowKind::NotDivides => false,
     }
 }
 
 // Whether all of the rows are such.
-fn has_small(rows: &[Row]) -> bool
-    ensures { IsTrue result ↔ All IsSmall rows.now }
+fn have_comparing(rows: &[Row]) -> bool
+    ensures { IsTrue result ↔ All IsComparing rows.now }
 {
-    for row in rows {
-        if !is_small(row) {
-            return false;
-        }
-    }
-    true
+    rows.iter().all(|row| is_comparing(row))
 }
 
-/// Whether all rows of the systems are equations and bounds with coefficients 1, -1 and 0 alone.
-pub(crate) fn are_small(system: &System, outs: &[System]) -> bool
-    ensures { All IsSmall system.now.rows → All (λ out. All IsSmall out.rows) outs.now → IsTrue result }
+/// Whether each row of the systems is an equation or a bound that compares two columns, or one with a number.
+pub(crate) fn are_comparing(system: &System, outs: &[System]) -> bool
+    ensures { IsTrue result ↔ (All IsComparing system.now.rows × All (λ out. All IsComparing out.rows) outs.now) }
 {
-    if !has_small(system.rows.as_slice()) {
-        return false;
-    }
-    for out in outs {
-        if !has_small(out.rows.as_slice()) {
-            return false;
-        }
-    }
-    true
+    have_comparing(system.rows.as_slice())
+        && outs.iter().all(|out| have_comparing(out.rows.as_slice()))
 }
 
 // The product, or the most nodes where these are fewer.

@@ -3,7 +3,7 @@ use Rattle.std.proofs.lemmas.Grind.{common_steps}
 use Rattle.isl_difference.specs.Tame.{part_limit}
 use Rattle.isl_ledger.specs.Work.{row_limit}
 use Rattle.isl_cert.proofs.BoundLaws.{each_up_to, nodes_up_to, outs_counted, parts_next, rows_up_to}
-use Rattle.isl_cert.proofs.small.most_nodes.Goals as goal
+use Rattle.isl_cert.proofs.comparing.most_nodes.Goals as goal
 
 pub loop-out-init : goal.loop-out-init
 loop-out-init c = record { some = omega arith; few = let one = outs_counted c.args.columns 0 in omega (arith, one) }
