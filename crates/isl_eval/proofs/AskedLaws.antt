@@ -10,7 +10,7 @@ use Rattle.isl_tree.specs.declared.statement.Expr as e
 use Rattle.isl_flat.specs.Flat.{is_sample}
 use Rattle.isl_eval.specs.Tests.{is_test}
 use Rattle.isl_eval.specs.Asked.{is_at_numbers, is_of_operand, question_of, shows_at_numbers}
-use Rattle.isl_eval.specs.Evaluation.{ends_with_test, is_codegen, is_coalesce, is_asked}
+use Rattle.isl_eval.specs.Evaluation.{ends_with_test, is_codegen, is_coalesce, is_asked, is_pip}
 use Rattle.isl_eval.proofs.TestLaws.{ends_are, ends_at}
 
 pub numbered_of-Prefix : (run : Bool) (word : Word) (operand : Expr)
@@ -54,11 +54,16 @@ pub codegen_word : (word : Word) → is_codegen word ≡ true → word ≡ p.Cod
 codegen_word p.Codegen is = refl
 codegen_word _ is = let no : false ≡ true = is in cc
 
+pub pip_word : (word : Word) → is_pip word ≡ true → word ≡ p.Pip
+pip_word p.Pip is = refl
+pip_word _ is = let no : false ≡ true = is in cc
+
 -- the other word that is about its operand
-pub scan_word : (word : Word) → is_of_operand (question_of word) ≡ true → is_codegen word ≡ false → word ≡ p.Scan
-scan_word p.Scan is other = refl
-scan_word p.Codegen is other = let no : true ≡ false = other in cc
-scan_word _ is other = let no : false ≡ true = is in cc
+pub scan_word : (word : Word) → is_of_operand (question_of word) ≡ true → is_codegen word ≡ false → is_pip word ≡ false → word ≡ p.Scan
+scan_word p.Scan is other none = refl
+scan_word p.Codegen is other none = let no : true ≡ false = other in cc
+scan_word p.Pip is other none = let no : true ≡ false = none in cc
+scan_word _ is other none = let no : false ≡ true = is in cc
 
 pub sample_word : (word : Word) → is_sample word ≡ true → word ≡ p.Sample
 sample_word p.Sample is = refl

@@ -46,6 +46,7 @@ taken_value : (expr : Expr) (params : List Name) (kind : ValueKind) (u : TypeVie
 taken_value expr params k.Truth u is = let f : Err r.WrongKind ≡ Ok u = is in cc
 taken_value expr params k.Listing u is = let f : Err r.WrongKind ≡ Ok u = is in cc
 taken_value expr params k.Code u is = let f : Err r.WrongKind ≡ Ok u = is in cc
+taken_value expr params k.Tree u is = let f : Err r.WrongKind ≡ Ok u = is in cc
 taken_value expr params _ u is = refl
 
 bound_value : (scope : ScopeView) (expr : Expr) (u : TypeView) → type_for purpose.Bound scope expr ≡ Ok u → is_value u.kind ≡ true

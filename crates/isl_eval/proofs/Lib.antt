@@ -21,6 +21,7 @@ pub mod CheckLaws
 pub mod NumberLaws
 pub mod VisitLaws
 pub mod CodedLaws
+pub mod TreesLaws
 pub mod TakenLaws
 pub mod UnaskedLaws
 pub mod ParamsLaws

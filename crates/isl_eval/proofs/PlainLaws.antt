@@ -1,4 +1,4 @@
--- A test, `scan` and `codegen` stand outermost where there is a kind, so values are worked out of nothing foreign where nothing is chosen.
+-- A test, `scan`, `codegen` and `pip` stand outermost where there is a kind, so values are worked out of nothing foreign where nothing is chosen.
 use mathlib.Core.Former.{Count}
 use Rattle.std.proofs.Common.{◌≡◌, ◌∙◌, refl, sym, ap, ap₂, subst}
 use Rattle.std.proofs.Common.{Bool, true, false, List, [], ◌∷◌, ◌++◌, Option, Some, None}
@@ -12,7 +12,7 @@ use Rattle.isl_tree.specs.declared.statement.Binary.TheVariants as b
 use Rattle.isl_tree.specs.declared.statement.Prefix.{Prefix as Word}
 use Rattle.isl_tree.specs.declared.statement.Prefix.TheVariants as p
 use Rattle.isl_tree.specs.declared.statement.ValueKind.{ValueKind}
-use Rattle.isl_tree.specs.declared.statement.ValueKind.TheVariants.{Set, Map, List as Pair, Empty, Truth, Listing, Code}
+use Rattle.isl_tree.specs.declared.statement.ValueKind.TheVariants.{Set, Map, List as Pair, Empty, Truth, Listing, Code, Tree}
 use Rattle.isl_tree.specs.declared.statement.Postfix.{Postfix, Inverse, Apply, Item}
 use Rattle.isl_tree.specs.declared.statement.Expr as e
 use Rattle.isl_tree.specs.declared.statement.Expr.{Expr, Row', Prefix', Any', Last', Post', Row_of-Expr, end_of-Expr, more_of-Expr}
@@ -34,6 +34,7 @@ abbrev pub is_value : ValueKind → Bool
 is_value Truth = false
 is_value Listing = false
 is_value Code = false
+is_value Tree = false
 is_value _ = true
 
 fits_value : (given asked : ValueKind) → is_set_or_map asked ≡ true → fits given asked ≡ true → is_value given ≡ true
@@ -50,6 +51,9 @@ fits_value Listing _ which fit = absurd (false≢true which)
 fits_value Code Set which fit = absurd (false≢true fit)
 fits_value Code Map which fit = absurd (false≢true fit)
 fits_value Code _ which fit = absurd (false≢true which)
+fits_value Tree Set which fit = absurd (false≢true fit)
+fits_value Tree Map which fit = absurd (false≢true fit)
+fits_value Tree _ which fit = absurd (false≢true which)
 
 -- ---- lines of two operands
 -- each line asks for sets or maps, and makes a kind with P
@@ -178,6 +182,7 @@ word_takes p.DomainMap k m is = short_lines_of ((Map, Map) ∷ []) k m refl is
 word_takes p.RangeMap k m is = short_lines_of ((Map, Map) ∷ []) k m refl is
 word_takes p.Scan k m is = short_lines_of ((Set, Listing) ∷ (Map, Listing) ∷ []) k m refl is
 word_takes p.Codegen k m is = short_lines_of ((Set, Code) ∷ (Map, Code) ∷ []) k m refl is
+word_takes p.Pip k m is = short_lines_of ((Set, Tree) ∷ (Map, Tree) ∷ []) k m refl is
 word_takes _ k m is = short_lines_of ((Set, Set) ∷ (Map, Map) ∷ []) k m refl is
 
 -- `scan` makes no value
@@ -193,6 +198,13 @@ codegen_loops Set m is = let e : Some Code ≡ Some m = is in let same : Code �
 codegen_loops Map m is = let e : Some Code ≡ Some m = is in let same : Code ≡ m = cc in ap is_value (sym same)
 codegen_loops Empty m is = let e : Some Code ≡ Some m = is in let same : Code ≡ m = cc in ap is_value (sym same)
 codegen_loops _ m is = let e : None ≡ Some m = is in cc
+
+-- nor does `pip`
+pip_trees : (k m : ValueKind) → prefixed p.Pip k ≡ Some m → is_value m ≡ false
+pip_trees Set m is = let e : Some Tree ≡ Some m = is in let same : Tree ≡ m = cc in ap is_value (sym same)
+pip_trees Map m is = let e : Some Tree ≡ Some m = is in let same : Tree ≡ m = cc in ap is_value (sym same)
+pip_trees Empty m is = let e : Some Tree ≡ Some m = is in let same : Tree ≡ m = cc in ap is_value (sym same)
+pip_trees _ m is = let e : None ≡ Some m = is in cc
 
 inverts : (k m : ValueKind) → inverse k ≡ Some m → (is_value k ≡ true) × (is_value m ≡ true)
 inverts Map m is = (refl, let e : Some Map ≡ Some m = is in let same : Map ≡ m = cc in ap is_value (sym same))
@@ -324,11 +336,16 @@ no_codegen : (operand : Option ValueKind) (k : ValueKind) → option_and_then (p
 no_codegen None k is value = let f : None ≡ Some k = is in cc
 no_codegen (Some m) k is value = false≢true (sym (codegen_loops m k is) ∙ value)
 
+no_pip : (operand : Option ValueKind) (k : ValueKind) → option_and_then (prefixed p.Pip) operand ≡ Some k → ¬ (is_value k ≡ true)
+no_pip None k is value = let f : None ≡ Some k = is in cc
+no_pip (Some m) k is value = false≢true (sym (pip_trees m k is) ∙ value)
+
 -- a word that chooses nothing and makes a value is not foreign
 word_value : (word : Word) (operand : Option ValueKind) (k : ValueKind) → chooses (part.prefix word) ≡ false
     → option_and_then (prefixed word) operand ≡ Some k → is_value k ≡ true → is_foreign (part.prefix word) ≡ false
 word_value p.Scan operand k own is value = absurd (no_scan operand k is value)
 word_value p.Codegen operand k own is value = absurd (no_codegen operand k is value)
+word_value p.Pip operand k own is value = absurd (no_pip operand k is value)
 word_value p.Sample operand k own is value = absurd (false≢true (sym own))
 word_value _ operand k own is value = refl
 
@@ -575,6 +592,7 @@ shown_plain scope (Row' s first t links) k is full calm =
 shown_plain scope (Prefix' p.Scan s operand) k is full calm = operand_plain _ scope p.Scan operand k is calm
 shown_plain scope (Prefix' p.Sample s operand) k is full calm = absurd (false≢true (sym calm))
 shown_plain scope (Prefix' p.Codegen s operand) k is full calm = operand_plain _ scope p.Codegen operand k is calm
+shown_plain scope (Prefix' p.Pip s operand) k is full calm = operand_plain _ scope p.Pip operand k is calm
 shown_plain scope (Prefix' word s operand) k is full calm = operand_plain _ scope word operand k is calm
 shown_plain scope (Any' r source s sink t schedule) k is full calm =
     value_plain scope (Any' r source s sink t schedule) k is

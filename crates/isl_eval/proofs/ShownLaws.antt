@@ -85,7 +85,7 @@ use Rattle.isl_eval.specs.Asked.{is_of_operand, question_of, shows_at_numbers}
 use Rattle.isl_eval.specs.Ended.{IsAssumedWhereNeeded, ListingEnds, NarrowedEnds, StatementEnds}
 use Rattle.isl_eval.specs.Tests.{is_test, RowSays}
 use Rattle.isl_eval.specs.Evaluated.{made_parts, shown_parts, parts_around_test, works, IsTyped, IsEvaluable}
-use Rattle.isl_eval.specs.Evaluation.{ends_with_test, context_in, is_asked, is_codegen, is_coalesce, keeps_selected, refusal_of_fault}
+use Rattle.isl_eval.specs.Evaluation.{ends_with_test, context_in, is_asked, is_codegen, is_coalesce, is_pip, keeps_selected, refusal_of_fault}
 use Rattle.isl_eval.specs.Evaluation.{AreKeptIn, EndsListing, EndsPair, EndsTest, EndsWork, IsKeptIn, IsMakeable, IsReadyTest, IsSampled}
 use Rattle.isl_eval.specs.Evaluation.{IsChosen, IsGistIn, IsOutcome, IsPutAt, IsSimplified, IsTogether, IsValueWith}
 use Rattle.isl_eval.proofs.TypeLaws.{answered_ok, found_is, bind_typed, of_type, show_typed, typed_known}
@@ -282,11 +282,13 @@ shown_of-word : (word : Word) (operand : Expr) → is_of_operand (question_of wo
 unfolding hidden-the_row-Expr-0 denote.Hole.Carrier.hidden
 shown_of-word p.Scan operand about = refl
 shown_of-word p.Codegen operand about = refl
+shown_of-word p.Pip operand about = refl
 shown_of-word _ operand about = absurd (false≢true about)
 
 asked_uses : (assumed : Assumed) (word : Word) → is_of_operand (question_of word) ≡ true → uses_units assumed (part.prefix word) ≡ true
 asked_uses assumed p.Scan about = refl
 asked_uses assumed p.Codegen about = refl
+asked_uses assumed p.Pip about = refl
 asked_uses assumed _ about = absurd (false≢true about)
 
 -- the operand of a word is ready where what is made of it is plain
@@ -767,6 +769,7 @@ pub shows_value : (before : Moment) (expr : Expr) (answer : Answer) → is_asked
     → Shows before expr answer
 shows_value before (Prefix' p.Scan s operand) answer none value = absurd (false≢true (sym none))
 shows_value before (Prefix' p.Codegen s operand) answer none value = absurd (false≢true (sym none))
+shows_value before (Prefix' p.Pip s operand) answer none value = absurd (false≢true (sym none))
 shows_value before (Row' s first t links) answer none value =
     subst (λ (b : Bool). ShowsRow b
     (RowSays (ShowsTest before (declared_of (scope_of before.state) (Row' s first t links)) answer) before.state first links) before
@@ -776,6 +779,7 @@ shows_value before _ answer none value = value
 shown_made : (expr : Expr) → is_asked expr ≡ false → shown_parts expr ≡ made_parts expr
 shown_made (Prefix' p.Scan s operand) none = absurd (false≢true (sym none))
 shown_made (Prefix' p.Codegen s operand) none = absurd (false≢true (sym none))
+shown_made (Prefix' p.Pip s operand) none = absurd (false≢true (sym none))
 shown_made (Row' s first t links) none =
     ap (λ (x : Bool). if x then parts_in first ++ parts_around_test links else made_parts (Row' s first t links)) none
 shown_made _ none = refl
@@ -843,10 +847,10 @@ type_found scope s stmt (Err refusal) same typed (inl is) =
     let no : Err refusal ≡ Ok typed.0 = is ∙ here in cc
 type_found scope s stmt (Err refusal) same typed (inr is) = let no : Err refusal ≡ Err NoMemory = is in cc
 
--- the word of what is asked for is `codegen` or `scan`, and the last operator a test
+-- the word of what is asked for is `codegen`, `pip` or `scan`, and the last operator a test
 pub asked_scan : (expr operand : Expr) (word : Word) → expr ≡ e.Prefix word operand → is_asked expr ≡ true → is_codegen word ≡ false
-    → word ≡ p.Scan
-asked_scan expr operand word is asked other = scan_word word (sym (ap is_asked is ∙ asked_of-Prefix word operand) ∙ asked) other
+    → is_pip word ≡ false → word ≡ p.Scan
+asked_scan expr operand word is asked other none = scan_word word (sym (ap is_asked is ∙ asked_of-Prefix word operand) ∙ asked) other none
 
 pub asked_test : (expr first : Expr) (links list before : List Link) (last : Link) → expr ≡ Row first links → list ≡ links
     → list ≡ before ++ last ∷ []
@@ -978,6 +982,7 @@ fits_still g h after (Err refusal) charged fits = tt
 pub shown_ends : (before : Moment) (expr : Expr) → is_asked expr ≡ false → EndAlike (Ends before.state expr) (StatementEnds before (Show expr))
 shown_ends before (Prefix' p.Scan s operand) none why = absurd (false≢true (sym none))
 shown_ends before (Prefix' p.Codegen s operand) none why = absurd (false≢true (sym none))
+shown_ends before (Prefix' p.Pip s operand) none why = absurd (false≢true (sym none))
 shown_ends before _ none why = ((λ h. h), (λ h. h))
 
 row_ends : (before : Moment) (first : Expr) (links : List Link)

@@ -90,6 +90,7 @@ question_asks : (which : Question) (now : Moment) (whole : Expr) (OperandEnds : 
     → ¬ QuestionEnds which now whole OperandEnds names P (because not_assumed)
 question_asks question.Elements now whole OperandEnds names P none = either none (λ ends. ends)
 question_asks question.Loops now whole OperandEnds names P none = either none (λ ends. ends)
+question_asks question.Trees now whole OperandEnds names P none = either none (λ ends. ends)
 question_asks question.Value now whole OperandEnds names P none = expr_asks now.state whole
 
 shown_asks : (now : Moment) (expr : Expr) → ¬ ShownEnds now expr (because not_assumed)

@@ -1,7 +1,7 @@
 -- public: what is asked for where an expression is shown. (the iscc chapter of the barvinok manual)
 use Rattle.std.specs.Prelude.{Bool, true, false, not}
 use Rattle.isl_tree.specs.declared.words.Question.{Question}
-use Rattle.isl_tree.specs.declared.words.Question.TheVariants.{Value, Elements, Loops}
+use Rattle.isl_tree.specs.declared.words.Question.TheVariants.{Value, Elements, Loops, Trees}
 use Rattle.isl_tree.specs.Words.{makes_value, word_row}
 use Rattle.isl_tree.specs.declared.statement.Prefix.{Prefix}
 use Rattle.isl_tree.specs.declared.statement.Expr.{Expr, Row', Prefix', Any', Last', Post'}
@@ -9,7 +9,8 @@ use Rattle.isl_tree.specs.declared.statement.Expr as e
 use Rattle.isl_tree.specs.declared.statement.Stmt.{Stmt}
 use Rattle.isl_tree.specs.declared.statement.Stmt.TheVariants.{Empty, Bind, Show, Assume}
 
--- what a word asks for that is shown with its operand: the elements of the operand, loops that visit them, or the value that it makes
+-- what a word asks for that is shown with its operand: the elements of the operand, loops that visit them, trees of the least ones, or
+-- the value that it makes
 abbrev pub question_of : Prefix → Question
 question_of word = (word_row word).asks
 
@@ -21,6 +22,7 @@ is_of_operand question = not (makes_value question)
 abbrev pub is_at_numbers : Bool → Question → Bool
 is_at_numbers run Elements = true
 is_at_numbers run Loops = run
+is_at_numbers run Trees = false
 is_at_numbers run Value = false
 
 -- what is shown is about certain numbers of the parameters

@@ -6,18 +6,19 @@ use Rattle.isl_space.specs.Name.{Name}
 use Rattle.isl_assumed.specs.Assumed.{Assumes, PassesLimitAt}
 use Rattle.isl_tree.specs.declared.statement.Expr.{Expr, Row', Prefix', Any', Last', Post'}
 use Rattle.isl_tree.specs.declared.statement.Expr as e
+use Rattle.isl_tree.specs.declared.statement.Prefix.TheVariants.{LexMin}
 use Rattle.isl_tree.specs.declared.words.Question.{Question}
 use Rattle.isl_tree.specs.declared.words.Question.TheVariants as question
 use Rattle.isl_tree.specs.declared.statement.Stmt.{Stmt}
 use Rattle.isl_tree.specs.declared.statement.Stmt.TheVariants.{Empty, Bind, Show, Assume}
 use Rattle.isl_tree.specs.declared.tree.Literal.{Literal}
 use Rattle.isl_kinds.specs.Typed.{declared_in}
-use Rattle.isl_values.specs.State.{Moment, StateView, scope_of}
+use Rattle.isl_values.specs.State.{AtAssumed, Moment, StateView, scope_of}
 use Rattle.isl_values.specs.Selection.{SelectsIn}
 use Rattle.isl_state.specs.declared.list.ListPart.TheVariants.{First}
 use Rattle.isl_values.specs.Ends.{End, because, cut, too_wide, no_minimum, nested, time_shapes, unbounded, several_times}
 use Rattle.isl_values.specs.Ends.{no_valuation, not_assumed}
-use Rattle.isl_values.specs.Ends.{CutAlone, Elements, NoEnd, FirstEnds, Ends, EndsIn, NarrowingEnds}
+use Rattle.isl_values.specs.Ends.{CutAlone, Elements, NoEnd, FirstEnds, Ends, EndsIn, NarrowingEnds, WordEnds}
 use Rattle.isl_eval.specs.Params.{HoldsSome}
 use Rattle.isl_eval.specs.Listed.{AreFinite}
 use Rattle.isl_eval.specs.Asked.{question_of, needs_numbers}
@@ -36,10 +37,12 @@ ListingEnds P (because not_assumed) = ⊥
 ListingEnds P cut = Unit {0}
 
 -- What is asked of an operand that declares these names and selects these elements: they are listed where parameters have their given
--- numbers, or loops visit them. The operand comes first. Where a value is asked for it is that of the whole.
+-- numbers, loops visit them, or trees give the least ones, which ends as `lexmin` does. The operand comes first. Where a value is asked for it
+-- is that of the whole.
 abbrev pub QuestionEnds : Question → Moment → Expr → (End → Type 0) → List Name → Elements → End → Type 0
 QuestionEnds question.Elements now whole OperandEnds names P = FirstEnds OperandEnds (ListingEnds (λ element. P now.options.at element))
 QuestionEnds question.Loops now whole OperandEnds names P = FirstEnds OperandEnds (GenerationEnds (AtAssumedNumbers now.state names P))
+QuestionEnds question.Trees now whole OperandEnds names P = FirstEnds OperandEnds (WordEnds LexMin (AtAssumed now.state P))
 QuestionEnds question.Value now whole OperandEnds names P = Ends now.state whole
 
 -- of an expression that is shown

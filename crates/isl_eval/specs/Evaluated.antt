@@ -41,7 +41,7 @@ parts_around_test end_of-Link = []
 parts_around_test (more_of-Link sign operand end_of-Link) = parts_of operand
 parts_around_test (more_of-Link sign operand rest) = operator sign ∷ (parts_of operand ++ parts_around_test rest)
 
--- of `scan` and `codegen` their operand, of a row with a test at its end what stands around the test
+-- of `scan`, `codegen` and `pip` their operand, of a row with a test at its end what stands around the test
 abbrev pub shown_parts : Expr → List Part
 shown_parts (e.Name name) = made_parts (e.Name name)
 shown_parts (e.Literal literal) = made_parts (e.Literal literal)

@@ -21,12 +21,16 @@ use Rattle.isl_loop.specs.Run.{trace}
 use Rattle.isl_schedule.specs.declared.fault.GenFault.{GenFault}
 use Rattle.isl_schedule.specs.declared.fault.GenFault.TheVariants as gen_fault
 use Rattle.isl_schedule.specs.Good.{IsGoodTree}
+use Rattle.isl_greatest.specs.declared.fault.PipFault.{PipFault}
+use Rattle.isl_greatest.specs.declared.fault.PipFault.TheVariants as pip_fault
 use Rattle.isl_scan.specs.declared.fault.ScanFault.{ScanFault}
 use Rattle.isl_scan.specs.declared.fault.ScanFault.TheVariants as scan_fault
 use Rattle.isl_refusal.specs.declared.refusal.Refusal.{Refusal}
-use Rattle.isl_refusal.specs.declared.refusal.Refusal.TheVariants.{NoMemory, Nested, NotAssumed, Parametric, SeveralTimes, TimeShape, Unbounded}
+use Rattle.isl_refusal.specs.declared.refusal.Refusal.TheVariants.{NoMemory, NoMinimum, Nested, NotAssumed, Parametric, SeveralTimes, TimeShape}
+use Rattle.isl_refusal.specs.declared.refusal.Refusal.TheVariants.{Unbounded}
 use Rattle.isl_lower.specs.Value.{IsWellFormedLiteral}
 use Rattle.isl_tree.specs.declared.statement.Prefix.{Prefix}
+use Rattle.isl_tree.specs.declared.statement.Prefix.TheVariants.{LexMin}
 use Rattle.isl_tree.specs.declared.words.Question.{Question}
 use Rattle.isl_tree.specs.declared.words.Question.TheVariants as question
 use Rattle.isl_tree.specs.Words.{word_row}
@@ -44,10 +48,10 @@ use Rattle.isl_kinds.specs.Typed.{declared_of, declared_of_row, joined_names, ty
 use Rattle.isl_flat.specs.Flat.{flat, is_gist, is_sample}
 use Rattle.isl_flat.specs.Simple.{BindsIn}
 use Rattle.isl_state.specs.declared.list.ListPart.TheVariants.{First}
-use Rattle.isl_values.specs.State.{Kept, Moment, StateView, Fits, HasNumbersUpTo, scope_of, forgotten}
+use Rattle.isl_values.specs.State.{AtAssumed, Kept, Moment, StateView, Fits, HasNumbersUpTo, scope_of, forgotten}
 use Rattle.isl_values.specs.Live.{IsLiveUnder, IsSampleAt}
 use Rattle.isl_values.specs.Selection.{IsGistOfTwo, IsKeptOf, IsSelected, IsTogetherOf, Keeps, Selects, RowSelects, context_of}
-use Rattle.isl_values.specs.Ends.{because, cut, not_assumed, CutAlone, End, Ends, EndsRow, FirstEnds, GoesOn, OperationEnds}
+use Rattle.isl_values.specs.Ends.{because, cut, not_assumed, CutAlone, End, Ends, EndsRow, FirstEnds, GoesOn, OperationEnds, WordEnds}
 use Rattle.isl_values.specs.Made.{is_foreign, IsSoundExpr, IsSoundLink, IsPaid, IsWhyUnworked, refusal_of_cut}
 use Rattle.isl_claim.specs.Claim.{claim_text, Claim, IsClaimOf}
 use Rattle.isl_eval.specs.Claims.{claims_left, claims_right}
@@ -234,6 +238,11 @@ run_text options names tree = call_lines (trace tree (values_of names options.at
 abbrev pub IsCodeOfValue : Gauge → OptionsView → KeptValue → List ℕ → Type 0
 IsCodeOfValue g options value text = (tree : Loop) × IsTreeOf g value tree × (text ≡ code_text options value.params tree)
 
+-- what refuses a statement whose trees miss a least element
+abbrev pub refusal_of_trees : PipFault → Refusal
+refusal_of_trees pip_fault.NoMinimum = NoMinimum
+refusal_of_trees (pip_fault.Cut what) = refusal_of_cut what
+
 -- what refuses a statement whose scan ended without a listing
 abbrev pub refusal_of_fault : ScanFault → Refusal
 refusal_of_fault (scan_fault.Cut what) = refusal_of_cut what
@@ -244,12 +253,22 @@ refusal_of_fault scan_fault.Unbounded = Unbounded
 abbrev pub asks_loops : Question → Bool
 asks_loops question.Elements = false
 asks_loops question.Loops = true
+asks_loops question.Trees = false
 asks_loops question.Value = false
 
 abbrev pub is_codegen : Prefix → Bool
 is_codegen word = asks_loops (question_of word)
 
--- elements, loops or a truth are asked for
+abbrev pub asks_trees : Question → Bool
+asks_trees question.Elements = false
+asks_trees question.Loops = false
+asks_trees question.Trees = true
+asks_trees question.Value = false
+
+abbrev pub is_pip : Prefix → Bool
+is_pip word = asks_trees (question_of word)
+
+-- elements, loops, trees or a truth are asked for
 abbrev pub is_asked : Expr → Bool
 is_asked (e.Name name) = false
 is_asked (e.Literal literal) = false
@@ -331,6 +350,10 @@ EndsListing state operand at = FirstEnds (Ends state operand) (ListingEnds (λ e
 abbrev pub EndsGeneration : StateView → Expr → End → Type 0
 EndsGeneration state operand =
     FirstEnds (Ends state operand) (GenerationEnds (AtAssumedNumbers state (declared_of (scope_of state) operand) (Selects state operand)))
+
+-- what ends trees of what an operand selects
+abbrev pub EndsTrees : StateView → Expr → End → Type 0
+EndsTrees state operand = FirstEnds (Ends state operand) (WordEnds LexMin (AtAssumed state (Selects state operand)))
 
 -- what ends a row of this last link
 abbrev pub EndsTest : StateView → Expr → List Link → Link → End → Type 0

@@ -3,6 +3,7 @@ pub mod Claims
 pub mod Listed
 pub mod Asked
 pub mod Coded
+pub mod Trees
 pub mod Params
 pub mod Ended
 pub mod Spelled

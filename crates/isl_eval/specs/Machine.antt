@@ -26,6 +26,7 @@ use Rattle.isl_eval.specs.Claims.{ProvesTest}
 use Rattle.isl_eval.specs.Listed.{IsListed}
 use Rattle.isl_eval.specs.Asked.{question_of}
 use Rattle.isl_eval.specs.Coded.{IsCodeOf}
+use Rattle.isl_eval.specs.Trees.{IsTextOfTrees}
 use Rattle.isl_eval.specs.Ended.{StatementEnds}
 
 -- ---- answers
@@ -56,7 +57,7 @@ told holds lines = record { bytes = (if holds then codes "True" else codes "Fals
 abbrev pub listed : List Element → Answer
 listed elements = record { bytes = listing_text elements ++ 10 ∷ []; is_true = false; elements = length elements }
 
--- the lines of loops or of their calls, each with its line feed
+-- the lines of loops, of their calls or of trees, each with its line feed
 abbrev pub coded : List ℕ → Answer
 coded text = record { bytes = text; is_true = false; elements = 0 }
 
@@ -76,12 +77,13 @@ ShowsRow true Shown before expr answer = Shown
 ShowsRow false Shown before expr answer = ShowsValue before expr answer
 
 -- what is asked of an operand that declares these names and selects these elements: these, where parameters have their given numbers; or
--- loops that visit them; or the value of the whole
+-- loops that visit them; or trees of the least ones; or the value of the whole
 abbrev pub ShowsQuestion : Question → Moment → Expr → List Name → Elements → Answer → Type 0
 ShowsQuestion question.Elements before whole names P answer =
     (listing : List Element) × IsListed (λ element. P before.options.at element) listing × (answer ≡ listed listing)
 ShowsQuestion question.Loops before whole names P answer =
     (text : List ℕ) × IsCodeOf before.state before.meter before.options names P text × (answer ≡ coded text)
+ShowsQuestion question.Trees before whole names P answer = (text : List ℕ) × IsTextOfTrees before.state names P text × (answer ≡ coded text)
 ShowsQuestion question.Value before whole names P answer = ShowsValue before whole answer
 
 abbrev pub Shows : Moment → Expr → Answer → Type 0

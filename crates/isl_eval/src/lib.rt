@@ -16,6 +16,7 @@ mod simple;
 mod spelled;
 mod step;
 mod test;
+mod trees;
 mod workable;
 
 pub use answers::Answer;

@@ -28,6 +28,7 @@ use crate::kept::content;
 use crate::loops::coded;
 use crate::numbers::numbers_of;
 use crate::test::{ends_with_test, tested};
+use crate::trees::forested;
 use isl_meter::Meter;
 use isl_refusal::Refusal;
 use isl_scan::{ScanFault, scan};
@@ -112,14 +113,17 @@ fn truth_shown(
     Ok(Answer::of_truth(alloc, verdict.holds, verdict.lines.as_str())?)
 }
 
-// Whether a word asks for elements or loops, and for no value.
+// Whether a word asks for elements, loops or trees, and for no value.
 fn is_of_operand(word: Prefix) -> bool
     ensures { result ≡ asked.is_of_operand (asked.question_of word) }
 {
-    matches!(row_of(word).asks, Question::Elements | Question::Loops)
+    matches!(
+        row_of(word).asks,
+        Question::Elements | Question::Loops | Question::Trees
+    )
 }
 
-// Whether elements, loops or a truth are asked for.
+// Whether elements, loops, trees or a truth are asked for.
 #[tactic(auto, using(crate::proofs::AskedLaws::asked))]
 fn is_asked(expr: &Expr) -> bool
     ensures { result ≡ spec.is_asked expr.now }
@@ -137,7 +141,13 @@ fn is_codegen(word: Prefix) -> bool
     matches!(row_of(word).asks, Question::Loops)
 }
 
-// The line that lists elements, or that tells whether a test holds; or loops.
+fn is_pip(word: Prefix) -> bool
+    ensures { result ≡ spec.is_pip word }
+{
+    matches!(row_of(word).asks, Question::Trees)
+}
+
+// The line that lists elements, or that tells whether a test holds; or loops, or trees.
 fn asked_shown(
     alloc: Global,
     expr: &Expr,
@@ -158,6 +168,8 @@ fn asked_shown(
             let operand = operand.get();
             if is_codegen(*word) {
                 coded(alloc, operand, state, options, meter)
+            } else if is_pip(*word) {
+                forested(alloc, operand, state, meter)
             } else {
                 listed(alloc, operand, state, options, meter)
             }

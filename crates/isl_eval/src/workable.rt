@@ -36,7 +36,7 @@ fn is_at_numbers(word: Prefix, run: bool) -> bool
     match row_of(word).asks {
         Question::Elements => true,
         Question::Loops => run,
-        Question::Value => false,
+        Question::Trees | Question::Value => false,
     }
 }
 

@@ -3,7 +3,7 @@ use Rattle.std.specs.Prelude.{Bool, true, false, ◌&&◌, List, [], ◌∷◌, 
 use denote.Enum.Bare.{sameb}
 use Rattle.isl_tree.specs.contracts.statement.ValueKind.{the_type}
 use Rattle.isl_tree.specs.declared.statement.ValueKind.{ValueKind}
-use Rattle.isl_tree.specs.declared.statement.ValueKind.TheVariants.{Set, Map, List as Pair, Empty, Truth, Listing, Code}
+use Rattle.isl_tree.specs.declared.statement.ValueKind.TheVariants.{Set, Map, List as Pair, Empty, Truth, Listing, Code, Tree}
 use Rattle.isl_tree.specs.declared.statement.Binary.{Binary}
 use Rattle.isl_tree.specs.declared.statement.Binary.TheVariants as b
 use Rattle.isl_tree.specs.declared.statement.Prefix.{Prefix}
@@ -21,6 +21,7 @@ is_set_or_map Empty = false
 is_set_or_map Truth = false
 is_set_or_map Listing = false
 is_set_or_map Code = false
+is_set_or_map Tree = false
 
 -- what is given may stand where a kind is asked for: `Empty` is a set and a map
 abbrev pub fits : ValueKind → ValueKind → Bool

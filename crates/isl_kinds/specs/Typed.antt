@@ -15,7 +15,7 @@ use Rattle.isl_tree.specs.Known.{literal_is_known}
 use Rattle.isl_refusal.specs.declared.refusal.Refusal.{Refusal}
 use Rattle.isl_refusal.specs.declared.refusal.Refusal.TheVariants.{UnknownName, WrongKind, NoElement, NoMemory}
 use Rattle.isl_tree.specs.declared.statement.ValueKind.{ValueKind}
-use Rattle.isl_tree.specs.declared.statement.ValueKind.TheVariants.{Set, Map, List as Pair, Empty, Truth, Listing, Code}
+use Rattle.isl_tree.specs.declared.statement.ValueKind.TheVariants.{Set, Map, List as Pair, Empty, Truth, Listing, Code, Tree}
 use Rattle.isl_tree.specs.declared.statement.Stmt.{Stmt}
 use Rattle.isl_tree.specs.declared.statement.Stmt.TheVariants as s
 use Rattle.isl_tree.specs.declared.statement.Link.{Link}
@@ -203,6 +203,7 @@ takes Bound Empty = true
 takes Bound Truth = false
 takes Bound Listing = false
 takes Bound Code = false
+takes Bound Tree = false
 
 -- a wrong kind comes before elements that no list has
 abbrev pub kind_for : Purpose → Expr → Option ValueKind → Result ValueKind Refusal

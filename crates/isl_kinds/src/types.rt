@@ -133,7 +133,7 @@ impl Purpose {
             Purpose::Shown => true,
             Purpose::Bound => match kind {
                 ValueKind::Set | ValueKind::Map | ValueKind::List | ValueKind::Empty => true,
-                ValueKind::Truth | ValueKind::Listing | ValueKind::Code => false,
+                ValueKind::Truth | ValueKind::Listing | ValueKind::Code | ValueKind::Tree => false,
             },
         }
     }

@@ -54,6 +54,7 @@ WordForms p.Coalesce s formed = ⊥
 WordForms p.Sample s formed = ⊥
 WordForms p.Scan s formed = ⊥
 WordForms p.Codegen s formed = ⊥
+WordForms p.Pip s formed = ⊥
 
 -- what an application forms of a space of the map that is applied, and one of a map that it is applied to
 abbrev pub ApplicationForms : SpaceForm → SpaceForm → SpaceForm → Type 0

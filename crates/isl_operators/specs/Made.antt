@@ -104,6 +104,7 @@ IsWordOf p.Coalesce operand value = IsPutTogether operand value
 IsWordOf p.Sample operand value = ⊥
 IsWordOf p.Scan operand value = ⊥
 IsWordOf p.Codegen operand value = ⊥
+IsWordOf p.Pip operand value = ⊥
 
 -- any value of what a map is applied to; the map's parameters come first
 abbrev pub IsApplicationOf : KeptValue → KeptValue → KeptValue → Type 0

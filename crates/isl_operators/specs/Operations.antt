@@ -77,7 +77,7 @@ OperatorHas b.ProperSuperset Left Right element = ⊥
 OperatorHas b.Superset Left Right element = ⊥
 
 -- ---- words
--- the words whose elements are told by those of their operand; `sample` chooses, `scan` lists, and `codegen` makes loops
+-- the words whose elements are told by those of their operand; `sample` chooses, `scan` lists, `codegen` makes loops, and `pip` trees
 abbrev pub is_operation_word : Prefix → Bool
 is_operation_word word = tells_elements word
 
@@ -100,6 +100,7 @@ WordHas p.Coalesce names Operand valuation element = Operand valuation element
 WordHas p.Sample names Operand valuation element = ⊥
 WordHas p.Scan names Operand valuation element = ⊥
 WordHas p.Codegen names Operand valuation element = ⊥
+WordHas p.Pip names Operand valuation element = ⊥
 
 -- at some valuation there is no first one, which is to say that not at each there is one
 abbrev pub MissesFirst : (Point → Point → Type 0) → (Valuation → Element → Type 0) → Type 0
@@ -123,6 +124,7 @@ WordMisses p.Coalesce Operand = ⊥
 WordMisses p.Sample Operand = ⊥
 WordMisses p.Scan Operand = ⊥
 WordMisses p.Codegen Operand = ⊥
+WordMisses p.Pip Operand = ⊥
 
 -- ---- applications
 -- A map applied: to a set, what it maps the set's elements to; to a map, x → z where that maps x to some y, and the first map this y to z.

@@ -28,7 +28,7 @@ module _ (w : ℕ) (P : List ℤ → Type 0) (long : (ys : List ℤ) → P ys �
     λ z r before. least.1 z.numbers ((same z (before.form ∙ e)).0 r) before.before,
   )
 
-  least_from_first : (y : Point) → y.form ≡ form → IsFirst y → IsLeast P y.numbers
+  pub least_from_first : (y : Point) → y.form ≡ form → IsFirst y → IsLeast P y.numbers
   least_from_first y e first = (
     (same y e).0 first.0,
     λ zs p before.

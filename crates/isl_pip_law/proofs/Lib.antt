@@ -1,4 +1,5 @@
 pub mod LeastLaws
 pub mod LevelLaws
+pub mod LiftLaws
 pub mod MirrorLaws
 pub mod SpaceLaws

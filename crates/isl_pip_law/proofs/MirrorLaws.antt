@@ -53,3 +53,10 @@ least_from P Q same (Some ys) most = (
   subst P (twice ys) ((same (map neg_ℤ ys)).0 most.0),
   λ zs is before. most.1 (map neg_ℤ zs) ((same (map neg_ℤ zs)).1 (subst P (sym (twice zs)) is)) (negated_before zs ys before),
 )
+
+pub greatest_from : (P Q : List ℤ → Type 0) → ((us : List ℤ) → Q us ↔ P (map neg_ℤ us)) → (ys : List ℤ) → IsLeast P ys → IsGreatest Q (map neg_ℤ ys)
+greatest_from P Q same ys least = (
+  (same (map neg_ℤ ys)).1 (subst P (sym (twice ys)) least.0),
+  λ zs is before. least.1 (map neg_ℤ zs) ((same zs).0 is)
+      (subst (λ l. IsBefore (map neg_ℤ zs) l) (twice ys) (negated_before (map neg_ℤ ys) zs before)),
+)

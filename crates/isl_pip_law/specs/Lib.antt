@@ -1,3 +1,4 @@
 pub mod Least
 pub mod Levels
+pub mod Lift
 pub mod Mirror

@@ -37,7 +37,7 @@ HasNoDigit w = is_ascii_digit (slice_index w 1) ≡ false
 words_have_none : AllByRecursion HasNoDigit stacking_words
 unfolding stacking_words
 words_have_none =
-    (refl, (refl, (refl, (refl, (refl, (refl, (refl, (refl, (refl, (refl, (refl, (refl, (refl, (refl, (refl, (refl, (refl, (refl, (refl, (refl, (refl, (refl, tt))))))))))))))))))))))
+    (refl, (refl, (refl, (refl, (refl, (refl, (refl, (refl, (refl, (refl, (refl, (refl, (refl, (refl, (refl, (refl, (refl, (refl, (refl, (refl, (refl, (refl, (refl, tt)))))))))))))))))))))))
 
 digit_is_quiet : (z : Name) → is_ascii_digit (slice_index z 1) ≡ true → IsQuiet z
 digit_is_quiet z digit =

@@ -13,7 +13,7 @@ use Rattle.isl_tree.specs.declared.tree.Literal.{Literal}
 use Rattle.isl_tree.specs.Literal.{space_of_piece}
 use Rattle.isl_plain.specs.Rows.{rows_written}
 use Rattle.isl_tree.specs.declared.statement.ValueKind.{ValueKind}
-use Rattle.isl_tree.specs.declared.statement.ValueKind.TheVariants.{Set, Map, List as Pair, Empty, Truth, Listing, Code}
+use Rattle.isl_tree.specs.declared.statement.ValueKind.TheVariants.{Set, Map, List as Pair, Empty, Truth, Listing, Code, Tree}
 
 -- the piece's space, and the rows that its entries and comparisons write; it defines no columns
 abbrev pub piece_written : List Name → PieceTree → KeptPiece
@@ -48,6 +48,7 @@ IsSpaceOf Pair space = IsMap space
 IsSpaceOf Truth space = ⊥
 IsSpaceOf Listing space = ⊥
 IsSpaceOf Code space = ⊥
+IsSpaceOf Tree space = ⊥
 
 -- a value of this kind, or one of a list: sets alone, maps alone, or no piece
 abbrev pub IsOfKind : ValueKind → KeptValue → Type 0

@@ -16,8 +16,7 @@ use Rattle.isl_stmt.specs.declared.word.Role.TheVariants as role
 abbrev pub keywords : List (Text × Role)
 keywords =
     (codes "print", role.Print) ∷ (codes "any", role.Any) ∷ (codes "last", role.Last) ∷ (codes "before", role.Before)
-    ∷ (codes "under", role.Under) ∷ (codes "cross", role.Cross) ∷ (codes "assume", role.Assume) ∷ (codes "pip", role.Reserved)
-    ∷ []
+    ∷ (codes "under", role.Under) ∷ (codes "cross", role.Cross) ∷ (codes "assume", role.Assume) ∷ []
 
 unfoldable pub keyword_of : Text → Option Role
 keyword_of word = look_up keywords word

@@ -26,11 +26,9 @@ pub enum Role {
     Under,
     Cross,
     Assume,
-    /// A word that is no name, and that no statement has.
-    Reserved,
 }
 
-const KEYWORDS: [(&[u8], Role); 8] = [
+const KEYWORDS: [(&[u8], Role); 7] = [
     (b"print", Role::Print),
     (b"any", Role::Any),
     (b"last", Role::Last),
@@ -38,7 +36,6 @@ const KEYWORDS: [(&[u8], Role); 8] = [
     (b"under", Role::Under),
     (b"cross", Role::Cross),
     (b"assume", Role::Assume),
-    (b"pip", Role::Reserved),
 ];
 
 #[tactic(auto, unfolding(crate::specs::Word::keyword_of))]

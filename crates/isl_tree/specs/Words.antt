@@ -2,11 +2,11 @@
 use Rattle.std.specs.Prelude.{ℕ, Bool, true, false, not, ◌&&◌, List, [], ◌∷◌, Option, Some, None, codes, if◌then◌else◌}
 use Rattle.std.specs.Str.{bytes_eq}
 use Rattle.isl_tree.specs.declared.statement.ValueKind.{ValueKind}
-use Rattle.isl_tree.specs.declared.statement.ValueKind.TheVariants.{Set, Map, Listing, Code}
+use Rattle.isl_tree.specs.declared.statement.ValueKind.TheVariants.{Set, Map, Listing, Code, Tree}
 use Rattle.isl_tree.specs.declared.statement.Prefix.{Prefix}
 use Rattle.isl_tree.specs.declared.statement.Prefix.TheVariants as p
 use Rattle.isl_tree.specs.declared.words.Question.{Question}
-use Rattle.isl_tree.specs.declared.words.Question.TheVariants.{Value, Elements, Loops}
+use Rattle.isl_tree.specs.declared.words.Question.TheVariants.{Value, Elements, Loops, Trees}
 use Rattle.isl_tree.specs.declared.words.Word.{Word}
 
 -- ---- how words are spelled
@@ -17,7 +17,7 @@ spellings =
     ∷ (codes "identity", p.Identity) ∷ (codes "wrap", p.Wrap) ∷ (codes "unwrap", p.Unwrap) ∷ (codes "zip", p.Zip)
     ∷ (codes "domain_map", p.DomainMap) ∷ (codes "range_map", p.RangeMap) ∷ (codes "lexmin", p.LexMin) ∷ (codes "lexmax", p.LexMax)
     ∷ (codes "aff", p.AffineHull) ∷ (codes "coalesce", p.Coalesce) ∷ (codes "sample", p.Sample) ∷ (codes "scan", p.Scan)
-    ∷ (codes "codegen", p.Codegen) ∷ []
+    ∷ (codes "codegen", p.Codegen) ∷ (codes "pip", p.Pip) ∷ []
 
 -- what a table of texts has for a text
 abbrev pub look_up : {A : Type 0} → List (List ℕ × A) → List ℕ → Option A
@@ -87,12 +87,14 @@ word_row p.Sample = working false true false
 word_row p.Coalesce = working false false true
 word_row p.Scan = asking Elements Listing
 word_row p.Codegen = asking Loops Code
+word_row p.Pip = asking Trees Tree
 
 -- a value is asked for
 abbrev pub makes_value : Question → Bool
 makes_value Value = true
 makes_value Elements = false
 makes_value Loops = false
+makes_value Trees = false
 
 -- it makes a value whose elements are told by those of its operand
 abbrev pub tells_elements : Prefix → Bool

@@ -114,6 +114,7 @@ pub enum Prefix {
     Sample,
     Scan,
     Codegen,
+    Pip,
 }
 
 /// What kind of value an expression has.
@@ -130,4 +131,6 @@ pub enum ValueKind {
     Listing,
     /// Loops.
     Code,
+    /// Trees of tests.
+    Tree,
 }

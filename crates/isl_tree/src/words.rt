@@ -14,6 +14,8 @@ pub enum Question {
     Elements,
     /// Loops that visit the elements of its operand.
     Loops,
+    /// Trees of the least elements, or of the least images, of its operand.
+    Trees,
 }
 
 /// A row of the table of words.
@@ -37,7 +39,7 @@ pub struct Word {
     pub works: bool,
 }
 
-const SPELLINGS: [(&[u8], Prefix); 18] = [
+const SPELLINGS: [(&[u8], Prefix); 19] = [
     (b"dom", Prefix::Domain),
     (b"domain", Prefix::Domain),
     (b"ran", Prefix::Range),
@@ -56,6 +58,7 @@ const SPELLINGS: [(&[u8], Prefix); 18] = [
     (b"sample", Prefix::Sample),
     (b"scan", Prefix::Scan),
     (b"codegen", Prefix::Codegen),
+    (b"pip", Prefix::Pip),
 ];
 
 const SET: Option<ValueKind> = Some(ValueKind::Set);
@@ -118,6 +121,7 @@ pub fn row_of(word: Prefix) -> Word
         },
         Prefix::Scan => listing(Question::Elements, ValueKind::Listing),
         Prefix::Codegen => listing(Question::Loops, ValueKind::Code),
+        Prefix::Pip => listing(Question::Trees, ValueKind::Tree),
     }
 }
 

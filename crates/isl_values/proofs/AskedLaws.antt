@@ -129,6 +129,7 @@ module _ (state : StateView) (operand asked : KeptValue) (live : IsLiveUnder sta
   asked_forms p.Sample is = forms_asked (WordForms p.Sample) is
   asked_forms p.Scan is = forms_asked (WordForms p.Scan) is
   asked_forms p.Codegen is = forms_asked (WordForms p.Codegen) is
+  asked_forms p.Pip is = forms_asked (WordForms p.Pip) is
 
   -- the word ends for what it is asked of as it does for what the operand has at assumed valuations
   pub asked_alike : (word : Prefix) → IsAskedOf state (looks word) operand asked

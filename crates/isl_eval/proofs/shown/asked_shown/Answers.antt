@@ -3,9 +3,10 @@ use Rattle.isl_values.specs.State.{scope_of}
 use Rattle.isl_tree.specs.declared.statement.Stmt.TheVariants.{Show}
 use Rattle.isl_eval.specs.Ended.{StatementEnds}
 use Rattle.isl_tree.specs.declared.statement.Prefix.TheVariants as p
-use Rattle.isl_eval.specs.Evaluation.{EndsGeneration, EndsListing, EndsTest}
-use Rattle.isl_eval.proofs.AskedLaws.{codegen_word}
+use Rattle.isl_eval.specs.Evaluation.{EndsGeneration, EndsListing, EndsTest, EndsTrees}
+use Rattle.isl_eval.proofs.AskedLaws.{codegen_word, pip_word}
 use Rattle.isl_eval.proofs.CodedLaws.{codegen_ends, codegen_shows}
+use Rattle.isl_eval.proofs.TreesLaws.{pip_ends, pip_shows}
 use Rattle.isl_eval.proofs.TestLaws.{shows_test}
 use Rattle.isl_eval.proofs.ShownLaws.{asked_none, asked_scan, asked_sound, asked_test, asked_works, moment_of, outcome_in}
 use Rattle.isl_eval.proofs.ShownLaws.{row_is, scan_assumed, scan_ends, scan_shows}
@@ -22,14 +23,16 @@ pub listed-requires-clause-sound : goal.listed-requires-clause-sound
 listed-requires-clause-sound c =
     asked_sound (moment_of c.args.state.now c.args.meter.now c.args.options.now) c.args.expr.now c.in-Prefix.operand
     c.get-operand.result.now p.Scan _ c.in-Prefix.is
-    (asked_scan c.args.expr.now c.in-Prefix.operand _ c.in-Prefix.is c.requires.asked (sym c.is_codegen.ensures ∙ c.if-is_codegen.false))
+    (asked_scan c.args.expr.now c.in-Prefix.operand _ c.in-Prefix.is c.requires.asked (sym c.is_codegen.ensures ∙ c.if-is_codegen.false)
+    (sym c.is_pip.ensures ∙ c.if-is_pip.false))
     c.get-operand.ensures refl c.requires.evaluable
 
 pub listed-requires-clause-assumed : goal.listed-requires-clause-assumed
 listed-requires-clause-assumed c =
     scan_assumed (moment_of c.args.state.now c.args.meter.now c.args.options.now) c.args.expr.now c.in-Prefix.operand
     c.get-operand.result.now _ c.in-Prefix.is
-    (asked_scan c.args.expr.now c.in-Prefix.operand _ c.in-Prefix.is c.requires.asked (sym c.is_codegen.ensures ∙ c.if-is_codegen.false))
+    (asked_scan c.args.expr.now c.in-Prefix.operand _ c.in-Prefix.is c.requires.asked (sym c.is_codegen.ensures ∙ c.if-is_codegen.false)
+    (sym c.is_pip.ensures ∙ c.if-is_pip.false))
     c.get-operand.ensures c.requires.assumed
 
 pub returns-then-is_codegen : goal.returns-then-is_codegen
@@ -45,11 +48,30 @@ returns-then-is_codegen c =
     c.get-operand.ensures code h)
     c.coded.ensures
 
-pub returns-else-is_codegen : goal.returns-else-is_codegen
-returns-else-is_codegen c =
+pub forested-requires-clause-sound : goal.forested-requires-clause-sound
+forested-requires-clause-sound c =
+    asked_sound (moment_of c.args.state.now c.args.meter.now c.args.options.now) c.args.expr.now c.in-Prefix.operand
+    c.get-operand.result.now p.Pip _ c.in-Prefix.is (pip_word _ (sym c.is_pip.ensures ∙ c.if-is_pip.true))
+    c.get-operand.ensures refl c.requires.evaluable
+
+pub returns-then-is_pip : goal.returns-then-is_pip
+returns-then-is_pip c =
+    let before = moment_of c.args.state.now c.args.meter.now c.args.options.now in
+    let which = pip_word _ (sym c.is_pip.ensures ∙ c.if-is_pip.true) in
+    outcome_in c.forested.result _ _ (EndsTrees c.args.state.now c.get-operand.result.now)
+    (StatementEnds before (Show c.args.expr.now)) _ _ c.args.meter.now c.forested.new.meter
+    (λ none. asked_works before c.args.expr.now c.in-Prefix.operand c.get-operand.result.now p.Pip _ c.in-Prefix.is which
+    c.get-operand.ensures refl ∙ none)
+    (pip_ends before c.args.expr.now c.in-Prefix.operand c.get-operand.result.now _ c.in-Prefix.is which c.get-operand.ensures)
+    (λ trees h. pip_shows before c.args.expr.now c.in-Prefix.operand c.get-operand.result.now _ c.in-Prefix.is which
+    c.get-operand.ensures trees h)
+    c.forested.ensures
+
+pub returns-else-is_pip : goal.returns-else-is_pip
+returns-else-is_pip c =
     let before = moment_of c.args.state.now c.args.meter.now c.args.options.now in
     let which = asked_scan c.args.expr.now c.in-Prefix.operand _ c.in-Prefix.is c.requires.asked
-    (sym c.is_codegen.ensures ∙ c.if-is_codegen.false) in
+    (sym c.is_codegen.ensures ∙ c.if-is_codegen.false) (sym c.is_pip.ensures ∙ c.if-is_pip.false) in
     outcome_in c.listed.result _ _ (EndsListing c.args.state.now c.get-operand.result.now c.args.options.now.at)
     (StatementEnds before (Show c.args.expr.now)) _ _ c.args.meter.now c.listed.new.meter
     (λ none. asked_works before c.args.expr.now c.in-Prefix.operand c.get-operand.result.now p.Scan _ c.in-Prefix.is which

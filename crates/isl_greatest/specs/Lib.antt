@@ -1,0 +1,13 @@
+pub mod Problem
+pub mod State
+pub mod Numbers
+pub mod Parts
+pub mod Next
+pub mod Decision
+pub mod Expressed
+pub mod Fault
+pub mod Search
+pub mod Summands
+pub use Rattle.isl_greatest_law.specs.Case
+pub use Rattle.isl_greatest_law.specs.Front
+pub use Rattle.isl_greatest_law.specs.Stage

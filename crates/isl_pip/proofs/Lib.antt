@@ -1,0 +1,12 @@
+pub mod BehindLaws
+pub mod GreatestLaws
+pub mod LevelLaws
+pub mod LiftedLaws
+pub mod LiftedLists
+pub mod MirrorSteps
+pub mod OrderLaws
+pub mod TreeLaws
+pub mod TreeMade
+pub mod TreesLaws
+pub mod ValueLaws
+pub mod WithoutLaws

@@ -1,0 +1,14 @@
+pub mod Least
+pub mod Levels
+pub mod Lift
+pub mod Behind
+pub mod Greatest
+pub mod Trees
+pub use Rattle.isl_by_space.specs.Spaces
+pub use Rattle.isl_greatest.specs.Fault
+pub use Rattle.isl_quast.specs.ForestText
+pub use Rattle.isl_quast.specs.Tree
+pub use Rattle.isl_relation.specs.Extremes
+pub use Rattle.isl_relation.specs.Orders
+pub use Rattle.isl_row_text.specs.Ordered
+pub use Rattle.isl_union.specs.KeptValue
