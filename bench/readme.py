@@ -49,7 +49,7 @@ ADVICE = [
     (4, "bind it", ("a;",), ("a := { }; a;",)),
     (4, "declare the parameter", ("{ [i] : i < n };",), ("[n] -> { [i] : i < n };",)),
     (5, "`scan (a - b)`", ("scan { [1] } - { [2] };",), ("scan ({ [1] } - { [2] });",)),
-    (5, "tests, listings, loops can't be bound", ("a := { } = { };",), ("{ } = { };",)),
+    (5, "tests, listings, loops, trees can't be bound", ("a := { } = { };",), ("{ } = { };",)),
     (5, "listings", ("a := scan { };",), ("scan { };",)),
     (5, "loops", ("a := codegen { };",), ("codegen { };",)),
     (6, "limit it", ("lexmin { [i] : i <= 0 };",), ("lexmin { [i] : -9 <= i <= 0 };",)),
