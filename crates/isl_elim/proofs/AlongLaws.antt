@@ -18,7 +18,7 @@ use Rattle.isl_piece.proofs.RowMagnitudes.{row_within_kept}
 use Rattle.isl_shadows.specs.Column.{HoldAtAny, HoldAtSome}
 use Rattle.isl_omega.specs.Column.{AreRowsOf, IsProper}
 use Rattle.isl_elim.specs.Elimination.{without, HoldsAlong, AddsAlong}
-use Rattle.isl_simpler.specs.Emptiness.{HoldNowhere}
+use Rattle.isl_presolve.specs.Emptiness.{HoldNowhere}
 use Rattle.isl_elim.specs.Others.{others_of}
 use Rattle.isl_column.specs.Parts.{PartsView, AreParts, ArePartsOf, IsNextPart, HoldsPart, head_count, count_of}
 use Rattle.isl_column.proofs.PartsLemmas.{parts_kept}

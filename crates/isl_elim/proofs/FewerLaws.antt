@@ -13,9 +13,9 @@ use Rattle.isl_piece.specs.System.{HoldRows, HoldsSystem, IsSystemWithin, free_c
 use Rattle.isl_omega.specs.Column.{IsProper}
 use Rattle.isl_redundant.specs.Redundant.{IsReduced}
 use Rattle.isl_elim.specs.Elimination.{AddsAlong, IsProjectionAlong, IsReducedSystem, system_of}
-use Rattle.isl_simpler.specs.Emptiness.{HoldNowhere}
-use Rattle.isl_simpler.specs.Fixed.{HoldAlike}
-use Rattle.isl_simpler.specs.Shear.{IsReduction}
+use Rattle.isl_presolve.specs.Emptiness.{HoldNowhere}
+use Rattle.isl_presolve.specs.Fixed.{HoldAlike}
+use Rattle.isl_presolve.specs.Shear.{IsReduction}
 use Rattle.isl_redundant.proofs.KeptLaws.{reduced_first}
 use Rattle.isl_elim.specs.Sample.{IsSample, IsNowhere}
 use Rattle.isl_elim.proofs.AlongLaws.{along_same, proper_rows}

@@ -18,7 +18,7 @@ use Rattle.isl_piece.specs.declared.system.System.{System}
 use Rattle.isl_piece.specs.Normal.{IsNormal}
 use Rattle.isl_piece.specs.Row.{IsWellFormed, IsRowWithin}
 use Rattle.isl_piece.specs.System.{HoldRows, HoldsSystem, IsSystemWithin, free_columns}
-use Rattle.isl_simpler.specs.Emptiness.{HoldNowhere}
+use Rattle.isl_presolve.specs.Emptiness.{HoldNowhere}
 use Rattle.isl_elim.specs.Opened.{AreOpened, padded, least_row, most_row, definition_rows, only_from}
 use Rattle.isl_elim.proofs.DefiningLaws.{definition_rows-append, definition_rows-more, all_opened, all_opened_back}
 use Rattle.isl_elim.proofs.OthersLaws.{among}

@@ -19,7 +19,7 @@ use Rattle.isl_ledger.specs.Answered.{IsTame}
 use Rattle.isl_ledger.specs.Difference.{IsDifferenceRow}
 use Rattle.isl_ledger.proofs.AnsweredLaws.{memory_later}
 use Rattle.isl_ledger.proofs.FormLaws.{units_from_comparison}
-use Rattle.isl_simpler.specs.Unit.{IsUnitRow}
+use Rattle.isl_presolve.specs.Unit.{IsUnitRow}
 use Rattle.isl_elim.specs.Tame.{AreFewDifferences, AddsFewDifferences, IsDifferenceHead}
 
 -- ---- how calls end

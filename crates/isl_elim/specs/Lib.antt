@@ -20,4 +20,4 @@ pub use Rattle.isl_omega.specs.Equality
 pub use Rattle.isl_piece.specs.Normal
 pub use Rattle.isl_piece.specs.Row
 pub use Rattle.isl_piece.specs.System
-pub use Rattle.isl_simpler.specs.Emptiness
+pub use Rattle.isl_presolve.specs.Emptiness

@@ -6,8 +6,8 @@ ghost use Rattle.isl_piece.specs.Normal.{IsNormal};
 ghost use Rattle.isl_piece.specs.System.{HoldRows};
 ghost use Rattle.isl_omega.specs.Column.{IsProper};
 ghost use Rattle.isl_elim.specs.Elimination.{AddsAlong};
-ghost use Rattle.isl_simpler.specs.Emptiness.{HoldNowhere};
-ghost use Rattle.isl_simpler.specs.Fixed.{HoldAlike};
+ghost use Rattle.isl_presolve.specs.Emptiness.{HoldNowhere};
+ghost use Rattle.isl_presolve.specs.Fixed.{HoldAlike};
 ghost use Rattle.isl_elim.specs.Narrow.{IsNarrow};
 ghost use Rattle.isl_elim.specs.Others.{others_of};
 ghost use Rattle.isl_elim.specs.Solved.{IsGivenBy};
@@ -22,8 +22,8 @@ use isl_column::{Parts, push_list};
 use isl_meter::{Cut, Meter};
 use isl_omega::column::Column;
 use isl_piece::{Row, Rows};
+use isl_presolve::{add_many_rows, cheapest, with_fixed};
 use isl_redundant::without_redundant;
-use isl_simpler::{add_many_rows, cheapest, with_fixed};
 use std::alloc::{AllocError, Global};
 
 // How many parts are taken as they come. The later ones are tested first: of many splinters most hold nowhere.

@@ -7,8 +7,8 @@ ghost use Rattle.isl_omega.specs.Column.{IsProper};
 ghost use Rattle.isl_shadows.specs.Units.{elimination_units};
 ghost use Rattle.isl_shadows.specs.Magnitude.{IsSpared};
 ghost use Rattle.isl_omega.specs.Equality.{HasEquality};
-ghost use Rattle.isl_simpler.specs.Emptiness.{HoldNowhere};
-ghost use Rattle.isl_simpler.specs.Shear.{IsReduction};
+ghost use Rattle.isl_presolve.specs.Emptiness.{HoldNowhere};
+ghost use Rattle.isl_presolve.specs.Shear.{IsReduction};
 ghost use Rattle.isl_redundant.specs.Redundant.{IsReduced};
 ghost use Rattle.isl_piece.specs.System.{HoldRows, HoldsSystem, IsSystemWithin, free_columns};
 ghost use Rattle.isl_elim.specs.Sample.{IsNowhere};
@@ -24,8 +24,10 @@ use isl_column::{Parts, real_shadow};
 use isl_meter::{Cut, Meter};
 use isl_omega::column::Column;
 use isl_piece::{Rows, System};
+use isl_presolve::{
+    add_many_rows, any_column, hold_at_guess, pairs_at, reduced, without_one_sided,
+};
 use isl_redundant::without_redundant;
-use isl_simpler::{add_many_rows, any_column, hold_at_guess, pairs_at, reduced, without_one_sided};
 use std::alloc::{AllocError, Global};
 
 /// Whether no number makes rows over one column hold. This spends what elimination of the column does.

@@ -24,8 +24,8 @@ use isl_column::eliminate_rows;
 use isl_meter::{Cut, Meter};
 use isl_omega::column::Column;
 use isl_piece::{Rows, System};
+use isl_presolve::add_many_rows;
 use isl_redundant::without_redundant;
-use isl_simpler::add_many_rows;
 use std::alloc::{AllocError, Global};
 
 /// The systems of the rows, over the columns and with the definitions of `left`.

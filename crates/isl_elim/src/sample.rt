@@ -21,7 +21,7 @@ use isl_column::Parts;
 use isl_meter::{Cut, Meter};
 use isl_omega::column::Column;
 use isl_piece::{Rows, System};
-use isl_simpler::{any_column, with_fixed};
+use isl_presolve::{any_column, with_fixed};
 use std::alloc::Global;
 
 // The point with another number at the column, so that the rows hold. One unit is used for each number at which they do not.

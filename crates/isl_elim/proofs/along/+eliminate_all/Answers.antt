@@ -12,11 +12,11 @@ use Rattle.isl_elim.specs.Tame.{AddsFewDifferences}
 use Rattle.isl_elim.proofs.DifferenceColumns.{AreDifferences, column_tame, difference_head}
 use Rattle.isl_elim.proofs.TameLaws.{tame_ok, tame_memory, tame_cut, same_bits, adds_none, adds_one, columns_tame, square_once}
 use Rattle.isl_elim.proofs.TameLaws.{head_taken, pushed_tame_first, pushed_tame_next, pushed_tame_cut, pushed_tame_all, pushed_tame_ends}
-use Rattle.isl_simpler.specs.Fixed.{HoldAlike}
+use Rattle.isl_presolve.specs.Fixed.{HoldAlike}
 use Rattle.isl_elim.proofs.AlongLaws.{along_none, along_after, along_nowhere, along_charged, columns_after}
 use Rattle.isl_elim.proofs.AlongLaws.{pushed_first, pushed_next, pushed_all, one_more, counted_after, counted_charged}
 use Rattle.isl_elim.proofs.FewerLaws.{along_alike}
-use Rattle.isl_simpler.specs.Emptiness.{HoldNowhere}
+use Rattle.isl_presolve.specs.Emptiness.{HoldNowhere}
 use Rattle.isl_elim.proofs.PartsLaws.{part_found, parts_after}
 use Rattle.isl_shadows.specs.Column.{HoldAtSome}
 use Rattle.isl_omega.specs.Column.{AreRowsOf}

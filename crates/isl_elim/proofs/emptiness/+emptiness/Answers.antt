@@ -2,7 +2,7 @@ use Rattle.std.proofs.Common.{◌≡◌, ◌≢◌, ◌↔◌, ◌<◌, ◌≤�
 use Rattle.isl_meter.specs.Gauge.{Gauge, IsCharged}
 use Rattle.isl_meter.proofs.CutLemmas.{IsCharged_trans}
 use Rattle.isl_column.specs.Parts.{ArePartsOf, AreNone}
-use Rattle.isl_simpler.specs.Emptiness.{HoldNowhere}
+use Rattle.isl_presolve.specs.Emptiness.{HoldNowhere}
 use Rattle.isl_column.proofs.PartsLemmas.{parts_kept}
 use Rattle.isl_elim.proofs.EmptinessLaws.{some_column, answered_after, head_found, head_holds, head_missing, parts_nowhere, rest_nowhere, some_holds, none_holds, so_far_next}
 use Rattle.isl_elim.proofs.PartsLaws.{part_found, parts_after, proper_kept}
@@ -13,7 +13,7 @@ use Rattle.std.proofs.lemmas.Result.{err_from_is_err_and}
 use Rattle.isl_ledger.specs.Difference.{IsDifferenceRow}
 use Rattle.isl_elim.proofs.TameLaws.{tame_cut, tame_cut_after}
 use Rattle.isl_elim.proofs.TameLaws.{tame_ok, tame_after, same_bits, cubes, some_cube, some_cubes, head_of, none_found}
-use Rattle.isl_simpler.proofs.ShearLaws.{reduction_after, reduction_some}
+use Rattle.isl_presolve.proofs.ShearLaws.{reduction_after, reduction_some}
 use Rattle.isl_elim.proofs.emptiness.+emptiness.Goals as goal
 
 pub column_out-rest_is_empty-requires : goal.column_out-rest_is_empty-requires

@@ -5,7 +5,7 @@ use Rattle.isl_elim.proofs.TameLaws.{tame_ok, tame_cut, cube_more, some_cubes}
 use Rattle.isl_elim.proofs.TameSystems.{plain_of_one, room_left}
 use Rattle.isl_meter.specs.Gauge.{IsCharged, IsCutBy}
 use Rattle.isl_piece.specs.System.{HoldsSystem, free_columns}
-use Rattle.isl_simpler.specs.Emptiness.{HoldNowhere}
+use Rattle.isl_presolve.specs.Emptiness.{HoldNowhere}
 use Rattle.isl_elim.specs.Opened.{AreOpened}
 use Rattle.isl_elim.specs.Sample.{IsNowhere}
 use Rattle.isl_elim.proofs.OpenedLaws.{decided, opened_nowhere, plain_nowhere}

@@ -3,9 +3,9 @@ use Rattle.std.specs.List.{All}
 use Rattle.std.proofs.lemmas.Result.{err_from_is_err_and}
 use Rattle.isl_meter.specs.Gauge.{Gauge}
 use Rattle.isl_ledger.specs.Difference.{IsDifferenceRow}
-use Rattle.isl_simpler.specs.Shear.{IsReduction}
-use Rattle.isl_simpler.proofs.OneSidedLaws.{reduction_past}
-use Rattle.isl_simpler.proofs.ShearLaws.{reduction_some}
+use Rattle.isl_presolve.specs.Shear.{IsReduction}
+use Rattle.isl_presolve.proofs.OneSidedLaws.{reduction_past}
+use Rattle.isl_presolve.proofs.ShearLaws.{reduction_some}
 use Rattle.isl_elim.proofs.FewerLaws.{reduction_fewer}
 use Rattle.isl_elim.proofs.TameLaws.{tame_ok, tame_memory, unit_rows, same_rows, not_cut, not_none}
 use Rattle.isl_elim.proofs.TameSystems.{some_all, some_differences}

@@ -4,7 +4,7 @@ use Rattle.isl_meter.specs.Gauge.{IsCharged}
 use Rattle.isl_meter.proofs.CutLemmas.{IsCharged_refl, IsCharged_trans}
 use Rattle.isl_piece.specs.System.{HoldRows}
 use Rattle.isl_column.specs.Parts.{AreParts, ArePartsOf, AreNone, HoldsPart}
-use Rattle.isl_simpler.specs.Fixed.{HoldAlike}
+use Rattle.isl_presolve.specs.Fixed.{HoldAlike}
 use Rattle.isl_elim.specs.Sample.{IsSample, IsNowhere}
 use Rattle.isl_elim.proofs.EmptinessLaws.{some_column, so_far_next}
 use Rattle.isl_elim.proofs.FewerLaws.{sample_alike}

@@ -1,5 +1,0 @@
-use Rattle.isl_simpler.proofs.FixedLaws.{IsSeen}
-use Rattle.isl_simpler.proofs.fixed.only_column.Given as goal
-
-abbrev pub invariant-loop-i : goal.invariant-loop-i
-invariant-loop-i l = IsSeen l.coefs l.i l.found

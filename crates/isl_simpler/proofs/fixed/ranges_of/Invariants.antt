@@ -1,5 +1,0 @@
-use Rattle.isl_simpler.specs.Fixed.{AreRanges}
-use Rattle.isl_simpler.proofs.fixed.ranges_of.Given as goal
-
-abbrev pub invariant-loop-row : goal.invariant-loop-row
-invariant-loop-row l = AreRanges l.columns l.rows l.ranges.items

@@ -1,6 +1,0 @@
-use Rattle.std.proofs.Common.{◌≡◌, ◌≤◌, IfSome, unsigned_abs}
-use Rattle.std.specs.List.{All}
-use Rattle.isl_simpler.proofs.reduction.ends.Given as goal
-
-abbrev pub invariant-loop-col : goal.invariant-loop-col
-invariant-loop-col l = All (λ c. unsigned_abs c ≤ 1) l.row.coefs → IfSome l.least (λ e. unsigned_abs e.number ≡ 1)
