@@ -2,7 +2,7 @@
 
 ghost use Rattle.std.specs.Prelude.{◌≡◌, ◌-◌, ◌<◌, ◌*◌, [], All, length, IfOk};
 ghost use Rattle.isl_meter.specs.Gauge.{IsDone, IsMetered};
-ghost use Rattle.isl_omega.specs.Column.{IsProper};
+ghost use Rattle.isl_omega.specs.Column.{IsAnswerFor, IsProper};
 ghost use Rattle.isl_omega.specs.Equality.{HasEquality};
 ghost use Rattle.isl_omega.specs.Units.{IsDoneFor};
 ghost use Rattle.isl_shadows.specs.Column.{HoldAtSome};
@@ -87,6 +87,8 @@ pub fn real_shadow(
     ensures implied { IfOk result (IsImplied meter.old (column.columns - 1) (HoldAtSome rows.now column.at)) }
     ensures meter { IsMetered meter.old meter.new result }
     ensures equality { HasEquality column.at rows.now → IsDone meter.old meter.new (λ left. left ≡ solved_rows rows.now column.at) result }
+    ensures solved { HasEquality column.at rows.now
+        → IsDone meter.old meter.new (IsAnswerFor meter.old (column.columns - 1) (HoldAtSome rows.now column.at)) result }
     ensures pairs { ¬ HasEquality column.at rows.now → IsDoneFor (pairs_on column.at rows.now) meter.old meter.new (λ _. Unit {0}) result }
     ensures real_rows { ¬ HasEquality column.at rows.now → on_side Side.Divides column.at rows.now ≡ [] → IfOk result
         (λ left. left ≡ exact_rows rows.now column.at) }

@@ -21,6 +21,9 @@ pub returns-in-Some-clause-equality : goal.returns-in-Some-clause-equality
 returns-in-Some-clause-equality c = λ _.
     solved_done c.args.meter.now c.solved_left.new.meter (IsAnswerFor c.args.meter.now (c.args.column.columns - 1) (HoldAtSome c.args.rows.now c.args.column.at)) (solved_rows c.args.rows.now c.args.column.at) c.solved_left.result c.solved_left.ensures.exact c.solved_left.ensures.left
 
+pub returns-in-Some-clause-solved : goal.returns-in-Some-clause-solved
+returns-in-Some-clause-solved c = λ _. c.solved_left.ensures.exact
+
 pub returns-in-Some-clause-pairs : goal.returns-in-Some-clause-pairs
 returns-in-Some-clause-pairs c = λ none.
     let rows = c.args.rows.now in
