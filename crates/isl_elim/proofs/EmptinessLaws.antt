@@ -1,5 +1,5 @@
 -- Emptiness, one part after another.
-use Rattle.std.proofs.Common.{◌≡◌, ◌≢◌, ◌↔◌, inl, inr, refl, ap, arith, ℕ, zero, suc, ℤ, pos, List, [], ◌∷◌, ◌-◌, ◌<◌, length, get_or, Bool, true, false}
+use Rattle.std.proofs.Common.{◌≡◌, ◌≢◌, ◌↔◌, inl, inr, refl, ap, arith, ℕ, zero, suc, ℤ, pos, List, [], ◌∷◌, ◌-◌, ◌<◌, ◌≤◌, length, get_or, Bool, true, false}
 use Rattle.std.specs.Prelude.{IsTrue, is_none, Option, Some, None, MatchOption, Result, MatchResult, Ok, Err}
 use Rattle.std.specs.List.{All, insert, remove}
 use Rattle.std.proofs.lemmas.List.Elements.{All-head}
@@ -9,6 +9,9 @@ use Rattle.isl_meter.specs.Gauge.{Gauge, IsCharged, IsCutBy}
 use Rattle.isl_meter.specs.declared.Cut.{Cut}
 use Rattle.isl_meter.proofs.CutLemmas.{IsCharged_refl, IsCharged_trans, IsCutBy-after, charges}
 use Rattle.isl_piece.specs.declared.row.Row.{Row}
+use Rattle.isl_piece.specs.declared.row.RowKind.TheVariants as kinds
+use Rattle.isl_elim.specs.declared.solved.UnitEquality.{UnitEquality}
+use Rattle.isl_elim.specs.Solved.{IsSubstituted, IsUnitEqualityOf}
 use Rattle.isl_piece.specs.Normal.{IsNormal}
 use Rattle.isl_piece.specs.System.{HoldRows}
 use Rattle.isl_redundant.specs.Redundant.{IsReduced}
@@ -172,6 +175,46 @@ pub shadow_after : (g h k : Gauge) (columns col : ℕ) (rows shadow : List Row) 
     → MatchResult result (λ empty. (IsTrue empty → HoldNowhere columns rows) × IsCharged g k) (IsCutBy g k)
 shadow_after g h k columns col rows shadow (Ok empty) i a c r = ((λ t. shadow_some g columns col rows shadow i a (r.0 t)), IsCharged_trans g h k c r.1)
 shadow_after g h k columns col rows shadow (Err cut) i a c r = IsCutBy-after g h k cut c r
+
+-- ---- a column that an equality gives
+pub equality_inside : (g : Gauge) (columns : ℕ) (rows : List Row) (found : UnitEquality) → All (IsProper g columns) rows
+    → IsUnitEqualityOf rows found → found.col < columns
+equality_inside g columns rows found proper is =
+    let row = get_or rows found.at none in
+    let wide = (proper found.at none is.place).formed.width in
+    let inside = is.inside none in
+    omega (arith, wide, inside)
+  where
+    none : Row
+    none = record { kind = kinds.Zero; coefs = []; constant = pos 0; k = pos 1 }
+
+pub substituted_after : (g k : Gauge) (columns col : ℕ) (rows short : List Row) (result : Result Bool Cut) → col < columns
+    → IsSubstituted g columns col rows short
+    → MatchResult result (λ empty. (IsTrue empty ↔ HoldNowhere (columns - 1) short) × IsCharged g k) (IsCutBy g k)
+    → MatchResult result (λ empty. (IsTrue empty ↔ HoldNowhere columns rows) × IsCharged g k) (IsCutBy g k)
+substituted_after g k columns col rows short (Ok empty) i a m = (
+  (
+    (λ t. shadow_none columns col rows i (λ point l h. m.0.0 t point l ((a.points point l).1 h))),
+    (λ n. m.0.1 (λ point l h.
+        let x = (a.points point l).0 h in
+        let inside : col ≤ length point = omega (arith, l, i) in
+        let long = length-insert point col x.0 inside in
+        n (insert point col x.0) (omega (arith, long, l, i)) x.1)),
+  ),
+  m.1,
+)
+substituted_after g k columns col rows short (Err cut) i a m = m
+
+-- of rows that hold at the same points
+pub normal_after : (g k : Gauge) (columns : ℕ) (rows normal : List Row) (result : Result Bool Cut)
+    → ((point : List ℤ) → HoldRows normal point ↔ HoldRows rows point)
+    → MatchResult result (λ empty. (IsTrue empty ↔ HoldNowhere columns normal) × IsCharged g k) (IsCutBy g k)
+    → MatchResult result (λ empty. (IsTrue empty ↔ HoldNowhere columns rows) × IsCharged g k) (IsCutBy g k)
+normal_after g k columns rows normal (Ok empty) same m = (
+  ((λ t point l h. m.0.0 t point l ((same point).1 h)), (λ n. m.0.1 (λ point l h. n point l ((same point).0 h)))),
+  m.1,
+)
+normal_after g k columns rows normal (Err cut) same m = m
 
 -- of fewer rows that hold at the same points
 pub shadow_fewer : (g h k : Gauge) (columns : ℕ) (rows few : List Row) (result : Result Bool Cut) → IsReduced columns rows few

@@ -170,6 +170,14 @@ opened_some g s rows w f i n same = record {
   back = λ point l h. let x = all_opened_back g s point w l h in (x.0, x.1, (same x.0).1 x.2);
 }
 
+pub rows_opened_nowhere : (g : Gauge) (s : System) (rows : List Row) → IsSystemWithin g s
+    → rows ≡ s.rows ++ definition_rows s.columns s.definitions → HoldNowhere s.columns rows ↔ IsNowhere (free_columns s) (HoldsSystem s)
+rows_opened_nowhere g s rows w e = (
+  (λ n point l h. let x = all_opened_back g s point w l h in n x.0 x.1 (subst (λ (r : List Row). HoldRows r x.0) (sym e) x.2)),
+  (λ n whole l h. n (take (free_columns s) whole) (length-take-le (free_columns s) whole (omega (arith, l)))
+      (all_opened g s whole w l (subst (λ (r : List Row). HoldRows r whole) e h))),
+)
+
 -- ---- answers
 pub two_pushed : (rows first second : List Row) (a b x y : Row) → first ≡ rows ++ a ∷ [] → second ≡ first ++ b ∷ [] → a ≡ x → b ≡ y → second ≡ rows ++ x ∷ y ∷ []
 two_pushed rows first second a b x y e f m n =

@@ -9,10 +9,17 @@ use Rattle.isl_shadows.specs.Column.{HoldAtSome}
 use Rattle.isl_omega.specs.Column.{IsProper, dropped}
 use Rattle.isl_omega.specs.Equality.{image_of}
 use Rattle.isl_elim.specs.declared.along.Given.{Given}
+use Rattle.isl_elim.specs.declared.solved.UnitEquality.{UnitEquality}
 
 -- an equality that has the column with 1 or -1
 abbrev pub IsUnitEquality : ℕ → Row → Type 0
 IsUnitEquality col r = (r.kind ≡ Zero) × (unsigned_abs (coef_at r col) ≡ 1)
+
+-- such an equality among the rows, and one of its columns
+pub record IsUnitEqualityOf (rows : List Row) (found : UnitEquality) : Type 0 where
+  pub place : found.at < length rows
+  pub inside : (d : Row) → found.col < length (slice_index_or rows found.at d).coefs
+  pub unit : (d : Row) → IsUnitEquality found.col (slice_index_or rows found.at d)
 
 -- a row where such an equality is 0, without the column
 abbrev pub short_image : Row → ℕ → Row → Row

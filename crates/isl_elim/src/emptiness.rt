@@ -19,7 +19,8 @@ ghost use Rattle.isl_ledger.specs.Answered.{IsTame};
 ghost use Rattle.isl_ledger.specs.Difference.{IsDifferenceRow};
 ghost use Rattle.isl_ledger.specs.Work.{Size, HasSize};
 
-use crate::opened::opened;
+use crate::opened::all_opened;
+use crate::solved::{substituted, unit_equality};
 use isl_column::{Parts, real_shadow};
 use isl_meter::{Cut, Meter};
 use isl_omega::column::Column;
@@ -233,6 +234,42 @@ fn are_empty(
     Ok(true)
 }
 
+// Whether no point makes the rows hold, once they are normal.
+#[tactic(auto, using(crate::proofs::EmptinessLaws::emptiness_steps))]
+fn normal_nowhere(alloc: Global, rows: Rows, columns: usize, meter: &mut Meter) -> Result<bool, Cut>
+    requires rows { All (IsProper meter.old columns) rows }
+    ensures exact { MatchResult result
+        (λ empty. (IsTrue empty ↔ HoldNowhere columns rows) × IsCharged meter.old meter.new)
+        (IsCutBy meter.old meter.new) }
+    ensures tame { IsTameOn columns (λ bits. All (IsDifferenceRow bits) rows) (columns * (columns * columns)) meter.old meter.new (λ _ _. Unit {0}) result }
+{
+    match rows.normalise(alloc, meter)? {
+        None => Ok(true),
+        Some(normal) => hold_nowhere(alloc, normal, columns, meter),
+    }
+}
+
+// Whether no point makes the rows hold. Columns that an equality has with 1 or -1 go first, by substitution where the rows lie; only then
+// the rows are made normal.
+#[tactic(auto, using(crate::proofs::EmptinessLaws::emptiness_steps))]
+fn rows_nowhere(alloc: Global, rows: Rows, columns: usize, meter: &mut Meter) -> Result<bool, Cut>
+    requires rows { All (IsProper meter.old columns) rows }
+    ensures exact { MatchResult result
+        (λ empty. (IsTrue empty ↔ HoldNowhere columns rows) × IsCharged meter.old meter.new)
+        (IsCutBy meter.old meter.new) }
+    ensures tame { IsTameOn columns (λ bits. All (IsDifferenceRow bits) rows) (columns * (columns * columns)) meter.old meter.new (λ _ _. Unit {0}) result }
+{
+    let Some(given) = unit_equality(rows.as_slice()) else {
+        return normal_nowhere(alloc, rows, columns, meter);
+    };
+    let column = Column {
+        columns,
+        at: given.col,
+    };
+    let short = substituted(alloc, rows, given.at, column, meter)?;
+    rows_nowhere(alloc, short, columns - 1, meter)
+}
+
 /// Whether the system holds at no point of whole numbers. Of one column, which is free, this spends what `eliminate` does; it
 /// spends no unit of its own.
 ///
@@ -257,10 +294,8 @@ pub fn is_empty(alloc: Global, system: &System, meter: &mut Meter) -> Result<boo
     if system.columns == 1 && system.definitions.is_empty() {
         return column_nowhere(alloc, &system.rows, meter);
     }
-    match opened(alloc, system, meter)? {
-        None => Ok(true),
-        Some(rows) => hold_nowhere(alloc, rows, system.columns, meter),
-    }
+    let rows = all_opened(alloc, system, meter)?;
+    rows_nowhere(alloc, rows, system.columns, meter)
 }
 
 /// Whether the system, whose rows are normal, holds at no point of whole numbers: as `is_empty`, which makes rows normal first.
@@ -283,5 +318,5 @@ pub fn is_normal_empty(alloc: Global, system: &System, meter: &mut Meter) -> Res
         return is_empty(alloc, system, meter);
     }
     let rows = system.rows.copy(alloc)?;
-    hold_nowhere(alloc, rows, system.columns, meter)
+    rows_nowhere(alloc, rows, system.columns, meter)
 }

@@ -6,7 +6,7 @@ ghost use Rattle.isl_meter.specs.Gauge.{IsDone, IsWithin};
 ghost use Rattle.isl_omega.specs.Column.{IsProper};
 ghost use Rattle.isl_piece.specs.Definition.{IsDefinition};
 ghost use Rattle.isl_piece.specs.System.{HoldsSystem, IsSystemWithin, free_columns};
-ghost use Rattle.isl_elim.specs.Opened.{AreOpened, padded, least_row, most_row, opened_rows};
+ghost use Rattle.isl_elim.specs.Opened.{AreOpened, definition_rows, padded, least_row, most_row, opened_rows};
 ghost use Rattle.isl_elim.specs.Sample.{IsNowhere};
 ghost use Rattle.isl_elim.specs.Tame.{IsPlainDifference, IsTameOn};
 ghost use Rattle.isl_ledger.specs.Difference.{IsDifferenceRow};
@@ -127,6 +127,22 @@ pub(crate) fn opened_rows(
     Ok(rows)
 }
 
+/// The rows of the system, in which each defined column is free.
+#[tactic(auto, using(std::proofs::lemmas::Grind::common_steps, crate::proofs::OpenedLaws::opening_steps))]
+pub(crate) fn all_opened(alloc: Global, system: &System, meter: &mut Meter) -> Result<Rows, Cut>
+    requires well_formed { IsSystemWithin meter.old system.now }
+    ensures exact { IsDone meter.old meter.new
+        (λ rows. (rows ≡ system.now.rows ++ definition_rows system.now.columns system.now.definitions)
+        × All (IsProper meter.old system.now.columns) rows) result }
+    ensures tame { IsTameOn system.now.columns (IsPlainDifference system.now) 0 meter.old meter.new (λ bits rows. All (IsDifferenceRow bits) rows) result }
+{
+    let mut rows = system.rows.copy(alloc)?;
+    for definition in system.definitions.as_slice() {
+        push_definition(alloc, definition, system.columns, &mut rows, meter)?;
+    }
+    Ok(rows)
+}
+
 /// The normal rows of the system, in which each defined column is free; none where one of them holds nowhere.
 #[tactic(auto, using(std::proofs::lemmas::Grind::common_steps, crate::proofs::OpenedLaws::opening_steps))]
 pub(crate) fn opened(alloc: Global, system: &System, meter: &mut Meter) -> Result<Option<Rows>, Cut>
@@ -135,10 +151,7 @@ pub(crate) fn opened(alloc: Global, system: &System, meter: &mut Meter) -> Resul
         (λ found. MatchOption found (IsNowhere (free_columns system.now) (HoldsSystem system.now)) (AreOpened meter.old system.now)) result }
     ensures tame { IsTameOn system.now.columns (IsPlainDifference system.now) 0 meter.old meter.new (λ bits found. IfSome found (All (IsDifferenceRow bits))) result }
 {
-    let mut rows = system.rows.copy(alloc)?;
-    for definition in system.definitions.as_slice() {
-        push_definition(alloc, definition, system.columns, &mut rows, meter)?;
-    }
+    let rows = all_opened(alloc, system, meter)?;
     match rows.normalise(alloc, meter)? {
         None => Ok(None),
         Some(normal) => Ok(Some(normal)),

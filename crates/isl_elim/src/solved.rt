@@ -7,7 +7,7 @@ ghost use Rattle.isl_omega.specs.Column.{IsProper};
 ghost use Rattle.isl_omega.specs.Magnitude.{IsNoOverflow, IsRowUpToAt};
 ghost use Rattle.isl_omega.specs.Units.{IsAnsweredFor};
 ghost use Rattle.isl_piece.specs.Row.{IsRowWithin};
-ghost use Rattle.isl_elim.specs.Solved.{IsUnitEquality, IsSubstituted, short_image};
+ghost use Rattle.isl_elim.specs.Solved.{IsUnitEquality, IsUnitEqualityOf, IsSubstituted, short_image};
 ghost use Rattle.isl_elim.specs.Tame.{IsTameOn};
 
 use isl_meter::{Cut, Int, Meter};
@@ -34,6 +34,42 @@ pub(crate) fn unit_at(rows: &[Row], col: usize) -> Option<usize>
     for i in 0..rows.len() {
         if is_unit_equality(&rows[i], col) {
             return Some(i);
+        }
+    }
+    None
+}
+
+// The place of an equality, and a column that it has with 1 or -1.
+#[derive(Clone, Copy)]
+pub(crate) struct UnitEquality {
+    pub at: usize,
+    pub col: usize,
+}
+
+// The last column that the row, where it is an equality, has with 1 or -1.
+fn unit_column(row: &Row) -> Option<usize>
+    ensures { IfSome result (λ col. IsUnitEquality col row.now × (col < length row.now.coefs)) }
+{
+    if row.kind != RowKind::Zero {
+        return None;
+    }
+    let columns = row.coefs.len();
+    for behind in 0..columns {
+        let col = columns - behind - 1;
+        if is_unit_equality(row, col) {
+            return Some(col);
+        }
+    }
+    None
+}
+
+// The first of the rows that is an equality which has some column with 1 or -1.
+pub(crate) fn unit_equality(rows: &[Row]) -> Option<UnitEquality>
+    ensures { IfSome result (IsUnitEqualityOf rows.now) }
+{
+    for at in 0..rows.len() {
+        if let Some(col) = unit_column(&rows[at]) {
+            return Some(UnitEquality { at, col });
         }
     }
     None
